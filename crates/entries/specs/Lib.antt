@@ -1,0 +1,2 @@
+-- What reading an entry from its line promises.
+pub mod EntryLines

@@ -1,0 +1,8 @@
+-- Laws that several proofs of this crate cite.
+pub mod Search
+pub mod Judged
+pub mod Tables
+pub mod Stores
+pub mod Written
+pub mod Lines
+pub mod Blocks

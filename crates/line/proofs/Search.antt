@@ -1,0 +1,29 @@
+-- A search through a table: what a loop knows that has passed the first places. Assumes nothing.
+use Prim.Native.Nat.{ℕ, zero, suc, _+_, _<_}
+use mathlib.Core.Path.{_≡_, sym, _∙_}
+use mathlib.Core.Bool.{Bool, true, false, _||_, or-true, or-false, or-assoc}
+use mathlib.Core.List.{List, [], _∷_, _++_}
+use native.Mathlib.Numerals.{add-one}
+use native.Mathlib.Decide.{decLt}
+use native.Mathlib.Omega.{arith}
+use Rattle.format.specs.Plan.{any}
+use Rattle.format.specs.Stored.{table}
+
+module _ {A : Type 0} (P : A → Bool) where
+  -- A test of a list with one more element.
+  pub any-last : (xs : List A) (x : A) → any P (xs ++ (x ∷ [])) ≡ (any P xs || P x)
+  any-last [] x = or-false (P x)
+  any-last (y ∷ xs) x = rw (any-last xs x) (sym (or-assoc (P y) (any P xs) (P x)))
+
+  -- No place passed so far, and not the next.
+  pub none-more : (f : ℕ → A) (i : ℕ) → any P (table i f) ≡ false → P (f i) ≡ false → any P (table (i + 1) f) ≡ false
+  none-more f i h k = rw (add-one, any-last (table i f) (f i), h, k)
+
+  -- A place below n.
+  pub found : (f : ℕ → A) (n i : ℕ) → i < n → P (f i) ≡ true → any P (table n f) ≡ true
+  found f zero i h k = absurd (omega arith)
+  found f (suc n) i h k = any-last (table n f) (f n) ∙ go (decLt i n) (λ l. found f n i l k)
+    where
+      go : Dec (i < n) → (i < n → any P (table n f) ≡ true) → (any P (table n f) || P (f n)) ≡ true
+      go (yes l) below = rw (below l)
+      go (no l) below = let e : i ≡ n = omega arith in rw (← e, k) (or-true (any P (table i f)))

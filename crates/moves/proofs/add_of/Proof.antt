@@ -1,0 +1,45 @@
+-- `add_of` meets its contract, by what `read_numbers` ensures. Assumes nothing.
+use borrow.Author.Needs.{needs}
+use Rattle.moves.proofs.add_of.Statement.{statement}
+use Rattle.moves.proofs.add_of.Tie as tie
+
+slice-aggregate-read-numbers : tie.Need-slice-aggregate-read-numbers
+slice-aggregate-read-numbers c = search needs
+
+read-numbers-requires : tie.Need-read-numbers-requires
+read-numbers-requires c κs = search needs
+
+enum-told : tie.Need-enum-told
+enum-told c = search needs
+
+enum-told-2 : tie.Need-enum-told-2
+enum-told-2 c = search needs
+
+returns : tie.Need-returns
+returns c = rw (← c .before .before .before .read-numbers .ensures .0, c .enum-told2 .given .1)
+
+array-read-t9 : tie.Need-array-read-t9
+array-read-t9 c = search needs
+
+array-read-t12 : tie.Need-array-read-t12
+array-read-t12 c = search needs
+
+array-read-t15 : tie.Need-array-read-t15
+array-read-t15 c = search needs
+
+returns-2 : tie.Need-returns-2
+returns-2 c = rw (← c .before .before .before .read-numbers .ensures .0, c .enum-told .given .1)
+
+pub add-of-spec : {M : Type 1} → statement M
+add-of-spec =
+    tie.close
+    (tie.spec
+    slice-aggregate-read-numbers
+    read-numbers-requires
+    enum-told
+    enum-told-2
+    returns
+    array-read-t9
+    array-read-t12
+    array-read-t15
+    returns-2)

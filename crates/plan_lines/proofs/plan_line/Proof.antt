@@ -1,0 +1,138 @@
+use borrow.Author.Tests.{not-true, not-false}
+-- `plan_line` reads the sizes and judges them. Assumes nothing.
+use mathlib.Core.Path.{_≡_, sym, _∙_}
+use mathlib.Core.Option.{some}
+use denote.Ref.{now}
+use Rattle.text.specs.Lines.{numbers}
+use Rattle.text.specs.Places.{fieldsAt}
+use Rattle.format.specs.declared.Kind.{Kind}
+use Rattle.format.specs.declared.Sizes.{Sizes}
+use Rattle.format.specs.Items.{itemOf, plan}
+use Rattle.line.proofs.Lines.{good-item, malformed, bad-size, plan-read}
+use borrow.Author.Needs.{needs}
+use Rattle.plan_lines.proofs.plan_line.Statement.{statement}
+use Rattle.plan_lines.proofs.plan_line.Tie as tie
+
+-- The sizes that were read.
+abbrev theSizes : tie.After-size-of5 → Sizes
+theSizes c =
+    record {
+      cards = c .before .before .before .before .size-of .result;
+      jobs = c .before .before .before .size-of2 .result;
+      blocks = c .before .before .size-of3 .result;
+      words = c .before .size-of4 .result;
+      copies = c .size-of5 .result;
+    }
+
+-- The function's start, from where its last size is made.
+abbrev start : tie.After-size-of5 → tie.Start
+start c = c .before .before .before .before .before .before .before .before .before .before .before .before
+
+-- What the line says, where its numbers could be read.
+says-plan : (c : tie.After-size-of5)
+    → itemOf Kind.Plan (numbers 5 (fieldsAt (now (start c .args .line)) (start c .args .at))) ≡ some (plan (theSizes c))
+says-plan c =
+    good-item Kind.Plan _ _ _
+    (c .before .before .before .before .before .before .before .before .read-numbers .ensures .0)
+    (c .before .before .before .before .before .enum-told .given .1)
+    ∙ λ i.
+    some
+    (plan
+    (record {
+      cards = sym (c .before .before .before .before .size-of .ensures) i;
+      jobs = sym (c .before .before .before .size-of2 .ensures) i;
+      blocks = sym (c .before .before .size-of3 .ensures) i;
+      words = sym (c .before .size-of4 .ensures) i;
+      copies = sym (c .size-of5 .ensures) i;
+    }))
+
+add-number : tie.Need-add-number
+add-number c = search needs
+
+slice-aggregate-read-numbers : tie.Need-slice-aggregate-read-numbers
+slice-aggregate-read-numbers c = search needs
+
+read-numbers-requires : tie.Need-read-numbers-requires
+read-numbers-requires c κs = search needs
+
+enum-told : tie.Need-enum-told
+enum-told c = search needs
+
+enum-told-2 : tie.Need-enum-told-2
+enum-told-2 c = search needs
+
+returns : tie.Need-returns
+returns c =
+    λ a.
+    malformed Kind.Plan _ _ _ _
+    (rw (← c .before .before .before .read-numbers .ensures .0, c .enum-told2 .given .1))
+
+array-read-size-of : tie.Need-array-read-size-of
+array-read-size-of c = search needs
+
+size-of-requires : tie.Need-size-of-requires
+size-of-requires c κs = search needs
+
+array-read-size-of-2 : tie.Need-array-read-size-of-2
+array-read-size-of-2 c = search needs
+
+size-of-requires-2 : tie.Need-size-of-requires-2
+size-of-requires-2 c κs = search needs
+
+array-read-size-of-3 : tie.Need-array-read-size-of-3
+array-read-size-of-3 c = search needs
+
+size-of-requires-3 : tie.Need-size-of-requires-3
+size-of-requires-3 c κs = search needs
+
+array-read-size-of-4 : tie.Need-array-read-size-of-4
+array-read-size-of-4 c = search needs
+
+size-of-requires-4 : tie.Need-size-of-requires-4
+size-of-requires-4 c κs = search needs
+
+array-read-size-of-5 : tie.Need-array-read-size-of-5
+array-read-size-of-5 c = search needs
+
+size-of-requires-5 : tie.Need-size-of-requires-5
+size-of-requires-5 c κs = search needs
+
+in-range-requires : tie.Need-in-range-requires
+in-range-requires c κs = search needs
+
+returns-2 : tie.Need-returns-2
+returns-2 c =
+    λ a.
+    let r = c .before .before in
+    bad-size _ a _ (theSizes r) (says-plan r) (sym (c .before .in-range .ensures) ∙ not-true _ (c .if1 .taken))
+
+returns-3 : tie.Need-returns-3
+returns-3 c =
+    λ a.
+    let r = c .before .before in
+    plan-read _ a _ (theSizes r) (says-plan r) (sym (c .before .in-range .ensures) ∙ not-false _ (c .if1 .left))
+    (start r .pre .1 .0) (start r .pre .1 .1)
+
+pub plan-line-spec : {M : Type 1} → statement M
+plan-line-spec =
+    tie.close
+    (tie.spec
+    add-number
+    slice-aggregate-read-numbers
+    read-numbers-requires
+    enum-told
+    enum-told-2
+    returns
+    array-read-size-of
+    size-of-requires
+    array-read-size-of-2
+    size-of-requires-2
+    array-read-size-of-3
+    size-of-requires-3
+    array-read-size-of-4
+    size-of-requires-4
+    array-read-size-of-5
+    size-of-requires-5
+    in-range-requires
+    returns-2
+    returns-3)

@@ -1,0 +1,13 @@
+-- `begins` tests whether there is an entry. Assumes nothing.
+use borrow.Author.Tests.{eq-eqb, ne-eqb}
+use Rattle.reader.proofs.begins.Statement.{statement}
+use Rattle.reader.proofs.begins.Tie as tie
+
+returns : tie.Need-returns
+returns c = rw (eq-eqb _ _ (c .if1 .taken))
+
+returns-2 : tie.Need-returns-2
+returns-2 c = rw (ne-eqb _ _ (c .if1 .left))
+
+pub begins-spec : {M : Type 1} → statement M
+begins-spec = tie.close (tie.spec returns returns-2)

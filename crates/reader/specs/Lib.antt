@@ -1,0 +1,2 @@
+-- What the functions that read a whole text promise.
+pub mod Cursors

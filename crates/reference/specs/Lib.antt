@@ -1,0 +1,2 @@
+-- What the public functions answer.
+pub mod Answers
