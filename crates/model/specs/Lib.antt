@@ -1,0 +1,13 @@
+-- The machine as definitions, from the bottom up.
+pub mod Lists
+pub mod Memory
+pub mod Places
+pub mod Status
+pub mod Working
+pub mod Cells
+pub mod Moves
+pub mod Steps
+pub mod Machine
+pub mod Entries
+pub mod History
+pub mod Demand3

@@ -1,0 +1,3 @@
+-- The report, and what a text or a schedule of records comes to.
+pub mod Report
+pub mod Runs

@@ -1,0 +1,100 @@
+-- What the two ways in give: a text with its schedule, or a plan's text with a schedule of records; and what is left in
+-- the lent buffer and handed back. Assumes nothing.
+use Prim.Native.Nat.{ℕ, _+_}
+use mathlib.Core.Bool.{Bool, cond, not, _||_}
+use mathlib.Core.List.{List, [], _∷_, _++_, map}
+use mathlib.Core.Option.{Option, none, some}
+use lib.Dec.{eqb, ltb, leb}
+use lib.ListN.{length, getD, drop}
+use Rattle.format.specs.declared.Entry.{Entry}
+use Rattle.format.specs.declared.Fault.{Fault}
+use Rattle.format.specs.declared.Form.{Form}
+use Rattle.format.specs.Plan.{Plan, Listed}
+use Rattle.format.specs.Reading.{Reading, refusal, accepted, reading}
+use Rattle.model.specs.declared.Refusal.{Refusal}
+use Rattle.runs.specs.declared.End.{End}
+use Rattle.model.specs.History.{Run, runOf}
+use Rattle.runs.specs.Report.{report, lastLine}
+
+-- What a run comes to before the buffer is looked at: a refusal by a check, without a report, or an end with a report.
+pub data Outcome : Type 0 where
+  refused : Fault → ℕ → Outcome
+  reported : End → List ℕ → Outcome
+
+-- How a run ends: by the refusal that stopped it, at the line of the entry, or accepted with a count.
+abbrev pub endOf : Option Refusal → ℕ → ℕ → End
+endOf none line count = End.Accepted count
+endOf (some r) line count = End.Refused r line
+
+-- What entries come to for a plan. Entry i, from 0, stands in line `line i`; acceptance gives `count`.
+abbrev pub outcomeOf : Plan → List Entry → (ℕ → ℕ) → ℕ → Outcome
+outcomeOf plan es line count =
+    let r : Run = runOf plan es in
+    let e : End = endOf (r .refusal) (line (length (r .history))) count in
+    reported e (report plan es r e)
+
+-- The line of entry i of a text.
+abbrev pub lineIn : List Listed → ℕ → ℕ
+lineIn ls i = getD (map (λ (l : Listed). l .line) ls) i 0
+
+-- "The whole text is checked for 1 to 10 before any entry runs; the first of 11 to 14 stops the run."
+abbrev pub ofReading : Reading → Outcome
+ofReading (refusal f n) = refused f n
+ofReading (accepted plan ls n) = outcomeOf plan (map (λ (l : Listed). l .entry) ls) (lineIn ls) n
+
+-- What a text comes to.
+unfoldable pub runText : List ℕ → Outcome
+runText text = ofReading (reading Form.Schedule text)
+
+-- "A record has a kind (0 call, 1 step) and two numbers": the record is of another kind.
+abbrev pub isOther : Entry → Bool
+isOther e = not (eqb (e .kind) 0 || eqb (e .kind) 1)
+
+-- The place, from n on, of the first record of another kind, where there is one.
+abbrev pub otherFrom : ℕ → List Entry → Option ℕ
+otherFrom n [] = none
+otherFrom n (e ∷ es) = cond (isOther e) (some n) (otherFrom (n + 1) es)
+
+-- The records run, unless one is of another kind.
+abbrev pub unlessOther : Option ℕ → Outcome → Outcome
+unlessOther none o = o
+unlessOther (some place) o = refused Fault.Misplaced place
+
+-- The most entries of a schedule.
+abbrev pub mostEntries : ℕ
+mostEntries = 4000
+
+-- "After the text's check and before any runs, over 4,000 records give 5 at place 4,001, else the first record of another
+-- kind gives 3 ..; these and 11 to 14 give the record's place from 1 as their line, and acceptance gives their count."
+abbrev pub ofRecords : Reading → List Entry → Outcome
+ofRecords (refusal f n) es = refused f n
+ofRecords (accepted plan ls n) es =
+    cond (ltb mostEntries (length es)) (refused Fault.TooMany (mostEntries + 1))
+    (unlessOther (otherFrom 1 es) (outcomeOf plan es (λ i. i + 1) (length es)))
+
+-- What a plan's text, "in which an entry line is 3", comes to with a schedule of records.
+unfoldable pub runSchedule : List ℕ → List Entry → Outcome
+runSchedule text es = ofRecords (reading Form.PlanAlone text) es
+
+-- A report is written where it is not longer than the lent buffer.
+abbrev pub fits : List ℕ → List ℕ → Bool
+fits bytes buffer = leb (length bytes) (length buffer)
+
+-- How the call ends, with a buffer lent: "15 is decided last."
+abbrev pub ended : Outcome → List ℕ → End
+ended (refused f n) buffer = End.Faulty f n
+ended (reported e bytes) buffer = cond (fits bytes buffer) e End.NoRoom
+
+-- "The caller gets back the written part of the buffer it lent, empty where no report is written".
+abbrev pub handed : Outcome → List ℕ → List ℕ
+handed (refused f n) buffer = []
+handed (reported e bytes) buffer = cond (fits bytes buffer) bytes []
+
+-- What the buffer then holds: "bytes past the report keep what they held".
+unfoldable pub left : Outcome → List ℕ → List ℕ
+left o buffer = handed o buffer ++ drop (length (handed o buffer)) buffer
+
+-- "A program .. prints the report, or `end number line` alone for 1 to 10."
+unfoldable pub printed : Outcome → List ℕ
+printed (refused f n) = lastLine (End.Faulty f n)
+printed (reported e bytes) = bytes

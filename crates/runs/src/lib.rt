@@ -1,0 +1,13 @@
+// How a run ends. specs/ has the report, and what a text or a schedule of records comes to, as definitions; proofs/ has
+// the runs of document 01, computed. No code.
+use format::Fault;
+use model::Refusal;
+
+// How a run ends: accepted, with the count of lines or records; refused by the check of the text or of the records;
+// refused at an entry; or with a report that is longer than the lent buffer. Refusals come with their line.
+pub enum End {
+    Accepted(usize),
+    Faulty(Fault, usize),
+    Refused(Refusal, usize),
+    NoRoom,
+}
