@@ -12,14 +12,14 @@ use Rattle.format.specs.Plan.{Plan, any}
 use Rattle.model.specs.Lists.{select, beforeFirst, afterFirst}
 use Rattle.model.specs.Memory.{jobOf, movesOf, afterUpdate, memory}
 use Rattle.model.specs.Machine.{blockIn, seen}
-use Rattle.model.specs.Entries.{jobIn}
+use Rattle.model.specs.Steps.{jobIn}
 use Rattle.model.specs.History.{
   Event,
   announces,
   decides,
   stores,
   commits,
-  commitsAny,
+  isCommit,
   returns,
   commitsIn,
   Run,
@@ -42,7 +42,7 @@ cardOf plan es c = jobIn plan (jobOf es c) .card
 -- before the other; without a commit yet, up to the entry reached."
 abbrev pub passing : Plan → List Entry → List Event → ℕ → ℕ → List Event
 passing plan es h c r =
-    select (λ (e : Event). commitsAny e && eqb (cardOf plan es (e .helped)) r)
+    select (λ (e : Event). isCommit e && eqb (cardOf plan es (e .helped)) r)
     (beforeFirst (commits c) (afterFirst (announces c) h))
 
 -- The one-after-another memory after the entries.

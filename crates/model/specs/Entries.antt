@@ -4,14 +4,14 @@ use Prim.Native.Nat.{ℕ, zero, suc}
 use mathlib.Core.Bool.{Bool, cond, _&&_, _||_}
 use mathlib.Core.Option.{Option, none, some}
 use lib.Dec.{eqb, ltb, leb}
-use lib.ListN.{length, getD}
-use Rattle.format.specs.declared.Job.{Job}
+use lib.ListN.{length}
 use Rattle.format.specs.declared.Entry.{Entry}
 use Rattle.format.specs.Plan.{Plan}
 use Rattle.model.specs.declared.Refusal.{Refusal}
 use Rattle.model.specs.declared.Judgement.{Judgement}
 use Rattle.model.specs.Places.{isActive}
 use Rattle.model.specs.Working.{called}
+use Rattle.model.specs.Steps.{jobIn}
 use Rattle.model.specs.Machine.{Machine, workOf, withWork, carriedOut, itemOf}
 
 -- The number of each refusal in the table.
@@ -20,10 +20,6 @@ refusalNumber Refusal.NoSuch = 11
 refusalNumber Refusal.Active = 12
 refusalNumber Refusal.NoCard = 13
 refusalNumber Refusal.NoneActive = 14
-
--- Job k's card and priority.
-abbrev pub jobIn : Plan → ℕ → Job
-jobIn plan k = getD (plan .jobs) k (record { card = 0; priority = 0 })
 
 -- Job k is active and on this card.
 abbrev pub activeOn : Plan → Machine → ℕ → ℕ → Bool

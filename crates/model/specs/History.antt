@@ -2,7 +2,7 @@
 -- before it. Which calls there are, and who announced, decided, stored, committed and returned, is read off that list.
 -- Assumes nothing.
 use Prim.Native.Nat.{ℕ, _+_}
-use mathlib.Core.Bool.{Bool, true, false, cond, _&&_}
+use mathlib.Core.Bool.{Bool, true, false, _&&_}
 use mathlib.Core.List.{List, [], _∷_, _++_, foldl, map}
 use mathlib.Core.Option.{Option, none, some}
 use lib.Dec.{eqb}
@@ -43,13 +43,9 @@ pub record Event : Type 0 where
 abbrev pub did : ℕ → Event → Bool
 did n e = eqb (label (e .item)) n
 
--- "A call is an accepted `call` entry": the event is call c.
+-- "A call is an accepted `call` entry": the event is a call of job k.
 abbrev pub calls : ℕ → Event → Bool
-calls c e = did 0 e && eqb (e .entry) c
-
--- The event is a call of job k.
-abbrev pub callsJob : ℕ → Event → Bool
-callsJob k e = did 0 e && eqb (e .job) k
+calls k e = did 0 e && eqb (e .job) k
 
 -- "A call's announcement is its first A14": the event is an A14 of call c.
 abbrev pub announces : ℕ → Event → Bool
@@ -64,12 +60,12 @@ abbrev pub stores : ℕ → Event → Bool
 stores b e = (did 41 e && e .done) && eqb (e .block) b
 
 -- "and H42 done commits, the latest call of job hid, whichever job runs the step": the event commits some call.
-abbrev pub commitsAny : Event → Bool
-commitsAny e = did 42 e && e .done
+abbrev pub isCommit : Event → Bool
+isCommit e = did 42 e && e .done
 
 -- The event commits call c.
 abbrev pub commits : ℕ → Event → Bool
-commits c e = commitsAny e && eqb (e .helped) c
+commits c e = isCommit e && eqb (e .helped) c
 
 -- "it lasts until the job's next A15, its return": the event is the return of call c.
 abbrev pub returns : ℕ → Event → Bool
@@ -77,7 +73,7 @@ returns c e = did 15 e && eqb (e .call) c
 
 -- "which entry commits which call".
 abbrev pub commitsIn : List Event → List Commit
-commitsIn h = map (λ (e : Event). record { entry = e .entry; call = e .helped }) (select commitsAny h)
+commitsIn h = map (λ (e : Event). record { entry = e .entry; call = e .helped }) (select isCommit h)
 
 -- The last entry of some events, 0 where there is none.
 abbrev pub lastEntry : ℕ → List Event → ℕ
@@ -86,7 +82,7 @@ lastEntry n (e ∷ es) = lastEntry (e .entry) es
 
 -- The latest call of job k.
 abbrev pub latest : ℕ → List Event → ℕ
-latest k h = lastEntry 0 (select (callsJob k) h)
+latest k h = lastEntry 0 (select (calls k) h)
 
 -- Whether a store moves V.
 abbrev pub movesV : Store → Bool

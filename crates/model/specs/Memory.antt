@@ -1,7 +1,7 @@
 -- The one-after-another memory: "It has no bank, copies or statuses." It is fed the opening words, the updates, the
 -- entries, and the list that says which entry commits which call. Assumes nothing.
 use Prim.Native.Nat.{ℕ, zero, suc, _+_, _-_, _%_}
-use mathlib.Core.List.{List, [], _∷_, foldl, map}
+use mathlib.Core.List.{List, [], foldl, map}
 use lib.Dec.{eqb}
 use lib.ListN.{getD, set}
 use Rattle.format.specs.declared.Entry.{Entry}

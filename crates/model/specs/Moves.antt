@@ -1,5 +1,5 @@
--- The reads and writes of a move, in order, and where a job is in the update that it runs: "A set is one write; copy and
--- add are a read, then a write." Assumes nothing.
+-- The reads and writes of a move, in order, and where a job is in the update that it runs: "A set is one write; copy
+-- and add are a read, then a write." Assumes nothing.
 use Prim.Native.Nat.{ℕ, _+_, _%_}
 use mathlib.Core.List.{List, [], _∷_}
 use lib.Dec.{ltb}

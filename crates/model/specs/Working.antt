@@ -1,5 +1,5 @@
--- A job's working record: the record of a job that was never called, and the changes that the step list makes, each the
--- record built anew. Working is declared in src/lib.rt. Assumes nothing.
+-- A job's working record: at the opening, and with the changes that the step list makes, each the record built anew.
+-- Working is declared in src/lib.rt. Assumes nothing.
 use Prim.Native.Nat.{ℕ, _+_}
 use mathlib.Core.Bool.{Bool, false}
 use mathlib.Core.List.{List, []}
@@ -9,9 +9,9 @@ use Rattle.model.specs.declared.Place.{Place}
 use Rattle.model.specs.declared.Version.{Version}
 use Rattle.model.specs.declared.Working.{Working}
 
--- What stands for a job's record where there is no such job.
-abbrev pub noWork : Working
-noWork =
+-- A record of a job that is not active and was never called, with these marks, numbers and copy list.
+abbrev pub unused : List ℕ → List ℕ → List ℕ → Working
+unused dirty curr copy =
     record {
       place = Place.Idle;
       update = 0;
@@ -27,41 +27,22 @@ noWork =
       word = 0;
       numblks = 0;
       dirtycnt = 0;
-      dirty = [];
-      curr = [];
-      copy = [];
-      j = 0;
-      addr = 0;
-      old = 0;
-      new = 0;
-    }
-
--- The record of a job that was never called, with its copy list: not active, and no block marked.
-abbrev pub opening : List ℕ → Working
-opening copy =
-    record {
-      place = Place.Idle;
-      update = 0;
-      round = 0;
-      lid = 0;
-      hid = 0;
-      wid = pos 0;
-      ver = record { count = 0; flag = false };
-      next = false;
-      tr = 0;
-      index = 0;
-      access = 0;
-      word = 0;
-      numblks = 0;
-      dirtycnt = 0;
-      dirty = replicate 16 0;
-      curr = replicate 16 0;
+      dirty = dirty;
+      curr = curr;
       copy = copy;
       j = 0;
       addr = 0;
       old = 0;
       new = 0;
     }
+
+-- What stands for a record where there is no such job.
+abbrev pub noWork : Working
+noWork = unused [] [] []
+
+-- A job's record at the opening, with its copy list: no block is marked.
+abbrev pub opening : List ℕ → Working
+opening copy = unused (replicate 16 0) (replicate 16 0) copy
 
 -- On to a place.
 abbrev pub goto : Place → Working → Working

@@ -1,10 +1,10 @@
--- What is answered, handed back and left in the lent buffer: laws for every outcome and every buffer, and a row for each
--- number of the table, computed on the definitions. Assumes nothing.
+-- What is answered, handed back and left in the lent buffer: laws for every outcome and every buffer, and a row for
+-- each number of the table, computed on the definitions. Assumes nothing.
 use Prim.Native.Nat.{ℕ, _+_, _≤_}
 use Prim.Native.String.{String}
-use mathlib.Core.Path.{_≡_, refl, sym, _∙_, ap}
+use mathlib.Core.Path.{_≡_, refl, _∙_, ap}
 use mathlib.Core.Bool.{Bool, true, false, cond}
-use mathlib.Core.List.{List, [], _∷_, _++_, map}
+use mathlib.Core.List.{List, [], _∷_, map}
 use native.Mathlib.Omega.{arith}
 use borrow.Author.Tests.{leb-true}
 use lib.ListN.{length, take, drop, replicate, length-append, length-drop}

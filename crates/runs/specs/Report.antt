@@ -1,5 +1,5 @@
--- The report, byte for byte: "Lines and fields are parted as in the text. In order: `commit entry job update`, ..; B lines
--- `block` ..; `open job status` ..; `end number line`". Assumes nothing.
+-- The report, byte for byte: "Lines and fields are parted as in the text. In order: `commit entry job update`, ..;
+-- B lines `block` ..; `open job status` ..; `end number line`". Assumes nothing.
 use Prim.Native.Nat.{ℕ, zero, suc, _+_}
 use mathlib.Core.Bool.{cond}
 use mathlib.Core.List.{List, [], _∷_, _++_, map}

@@ -64,8 +64,9 @@ unlessOther (some place) o = refused Fault.Misplaced place
 abbrev pub mostEntries : ℕ
 mostEntries = 4000
 
--- "After the text's check and before any runs, over 4,000 records give 5 at place 4,001, else the first record of another
--- kind gives 3 ..; these and 11 to 14 give the record's place from 1 as their line, and acceptance gives their count."
+-- "After the text's check and before any runs, over 4,000 records give 5 at place 4,001, else the first record of
+-- another kind gives 3 ..; these and 11 to 14 give the record's place from 1 as their line, and acceptance gives their
+-- count."
 abbrev pub ofRecords : Reading → List Entry → Outcome
 ofRecords (refusal f n) es = refused f n
 ofRecords (accepted plan ls n) es =
