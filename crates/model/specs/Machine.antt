@@ -33,13 +33,14 @@ inRow rows k i = getD (getD rows k []) i 0
 abbrev pub blockIn : ℕ → List ℕ → ℕ → List ℕ
 blockIn s words b = table s (λ i. getD words (b * s + i) 0)
 
--- The shared cells as an item reads them.
+-- The shared cells as an item reads them. No item reads past an array's end; an announcement or a status there counts
+-- as N.
 abbrev pub sharedIn : Plan → Machine → Shared
 sharedIn plan m =
     record {
       v = m .cells .v;
-      ann = λ r. getD (m .cells .ann) r 0;
-      stat = λ k. getD (m .cells .stat) k (pos 0);
+      ann = λ r. getD (m .cells .ann) r (plan .sizes .jobs);
+      stat = λ k. getD (m .cells .stat) k (pos (plan .sizes .jobs));
       trans = λ k. getD (m .cells .trans) k 0;
       bank = λ b. getD (m .cells .bank) b 0;
       numblks = λ k. getD (m .cells .numblks) k 0;
@@ -51,7 +52,7 @@ sharedIn plan m =
 
 -- "Word w seen through the bank is word w mod S of block number Bank[w div S]": the words of block b, seen so.
 abbrev pub seen : Plan → Machine → ℕ → List ℕ
-seen plan m b = blockIn (plan .sizes .words) (m .store) (getD (m .cells .bank) b 0)
+seen plan m b = blockIn (plan .sizes .words) (m .store) (sharedIn plan m .bank b)
 
 -- Job k's working record.
 abbrev pub workOf : Machine → ℕ → Working

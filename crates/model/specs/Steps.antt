@@ -72,6 +72,10 @@ sameFlag false b = not b
 unfoldable pub sameVersion : Version → Version → Bool
 sameVersion v ver = eqb (v .count) (ver .count) && sameFlag (v .flag) (ver .flag)
 
+-- The count after a count.
+abbrev pub nextCount : ℕ → ℕ
+nextCount count = count + 1
+
 -- The replaced block numbers, in listing order: of the first n listed blocks, the old numbers of those written.
 abbrev pub replaced : (ℕ → ℕ) → (ℕ → ℕ) → List ℕ → ℕ → List ℕ
 replaced addr old dirty zero = []
@@ -110,7 +114,11 @@ module _ (plan : Plan) (s : Shared) (p : ℕ) where
 
   -- A10's hid: Ann[(count + 1) mod P].
   abbrev pub nextHelped : Working → ℕ
-  nextHelped w = s .ann (pointsAt (w .ver .count + 1))
+  nextHelped w = s .ann (pointsAt (nextCount (w .ver .count)))
+
+  -- The job that wid names, whose row is read.
+  abbrev pub winner : Working → ℕ
+  winner w = jobNamed (w .wid)
 
   -- The copy list after H25 is done: the replaced block numbers take its first places.
   abbrev pub reclaimed : Working → List ℕ
@@ -186,7 +194,7 @@ module _ (plan : Plan) (s : Shared) (p : ℕ) where
   -- A12: if V = ver, V becomes (count + 1, new flag). To A7.
   item Place.A12 w =
       if sameVersion (s .v) (w .ver)
-      then storing (Store.Version (w .ver .count + 1) (w .next)) (goto Place.A7 w)
+      then storing (Store.Version (nextCount (w .ver .count)) (w .next)) (goto Place.A7 w)
       else quiet (goto Place.A7 w)
   -- A14: Ann[R] := p. Round 0: round 1, to A4. Round 1: to A15.
   item Place.A14 w =
@@ -222,9 +230,9 @@ module _ (plan : Plan) (s : Shared) (p : ℕ) where
       else quiet (goto Place.H34 (withWid (s .stat (w .hid)) w))
   -- H34: count n of wid's row; none to H42.
   item Place.H34 w =
-      if eqb (s .numblks (jobNamed (w .wid))) 0
-      then quiet (goto Place.H42 (withRow (s .numblks (jobNamed (w .wid))) w))
-      else quiet (goto Place.H36 (withRow (s .numblks (jobNamed (w .wid))) w))
+      if eqb (s .numblks (winner w)) 0
+      then quiet (goto Place.H42 (withRow (s .numblks (winner w)) w))
+      else quiet (goto Place.H36 (withRow (s .numblks (winner w)) w))
   -- For each listed block: H36, V not ver, to A10.
   item Place.H36 w = if sameVersion (s .v) (w .ver) then quiet (goto Place.H37 w) else quiet (goto Place.A10 w)
   -- H37, Stat[hid] = N, to A10.
@@ -233,8 +241,7 @@ module _ (plan : Plan) (s : Shared) (p : ℕ) where
   item Place.H38 w =
       quiet
       (goto Place.H41
-      (withLine (s .addrlist (jobNamed (w .wid)) (w .j)) (s .oldlist (jobNamed (w .wid)) (w .j))
-      (s .newlist (jobNamed (w .wid)) (w .j)) w))
+      (withLine (s .addrlist (winner w) (w .j)) (s .oldlist (winner w) (w .j)) (s .newlist (winner w) (w .j)) w))
   -- H41, if V = ver and the bank entry is old, it becomes new.
   item Place.H41 w = if mayStore w then doing (Store.Bank (w .addr) (w .new)) (afterStore w) else quiet (afterStore w)
   -- H42: if V = ver and Stat[hid] = wid, Stat[hid] := N (the commit). To A10.

@@ -4,7 +4,6 @@ use Prim.Native.Nat.{ℕ, zero, suc, _+_}
 use mathlib.Core.Bool.{cond}
 use mathlib.Core.List.{List, [], _∷_, _++_, map}
 use lib.IntN.{ℤ, pos, negsuc}
-use lib.ListN.{getD}
 use Rattle.text.specs.Bytes.{bytes}
 use Rattle.text.specs.Decimal.{decimal}
 use Rattle.format.specs.declared.Entry.{Entry}
@@ -13,7 +12,7 @@ use Rattle.format.specs.Faults.{numberOf}
 use Rattle.runs.specs.declared.End.{End}
 use Rattle.model.specs.Memory.{Commit, jobOf, updateOf}
 use Rattle.model.specs.Places.{isActive}
-use Rattle.model.specs.Machine.{Machine, workOf, seen}
+use Rattle.model.specs.Machine.{Machine, sharedIn, workOf, seen}
 use Rattle.model.specs.Entries.{refusalNumber}
 use Rattle.model.specs.History.{commitsIn, Run}
 
@@ -61,15 +60,15 @@ abbrev pub blockLines : Plan → Machine → List ℕ
 blockLines plan m = joined (plan .sizes .blocks) (λ b. lineOf (bytes "block") (seen plan m b))
 
 -- "`open job status`" for job k, where it is active.
-abbrev pub openLine : Machine → ℕ → List ℕ
-openLine m k =
+abbrev pub openLine : Plan → Machine → ℕ → List ℕ
+openLine plan m k =
     cond (isActive (workOf m k .place))
-    (bytes "open" ++ fieldsBehind (decimal k ∷ statusBytes (getD (m .cells .stat) k (pos 0)) ∷ []))
+    (bytes "open" ++ fieldsBehind (decimal k ∷ statusBytes (sharedIn plan m .stat k) ∷ []))
     []
 
 -- "`open job status` for each active job, by job number".
 abbrev pub openLines : Plan → Machine → List ℕ
-openLines plan m = joined (plan .sizes .jobs) (openLine m)
+openLines plan m = joined (plan .sizes .jobs) (openLine plan m)
 
 -- "`end number line`".
 abbrev pub lastLine : End → List ℕ
