@@ -1,5 +1,5 @@
 -- The machine's state, its opening, and how an item's store is carried out. Arrays have room for the largest plan; what
--- lies past the plan's sizes is never read. Cells and Working are declared in src/lib.rt. Assumes nothing.
+-- lies past the plan's sizes is padding. Cells and Working are declared in src/lib.rt. Assumes nothing.
 use Prim.Native.Nat.{ℕ, _+_, _*_}
 use mathlib.Core.Bool.{false}
 use mathlib.Core.List.{List, []}
@@ -33,8 +33,7 @@ inRow rows k i = getD (getD rows k []) i 0
 abbrev pub blockIn : ℕ → List ℕ → ℕ → List ℕ
 blockIn s words b = table s (λ i. getD words (b * s + i) 0)
 
--- The shared cells as an item reads them. No item reads past an array's end; an announcement or a status there counts
--- as N.
+-- The shared cells as an item reads them. Past its array's end an announcement or a status counts as N.
 abbrev pub sharedIn : Plan → Machine → Shared
 sharedIn plan m =
     record {
