@@ -75,7 +75,7 @@ returns c e = did 15 e && eqb (e .call) c
 abbrev pub commitsIn : List Event → List Commit
 commitsIn h = map (λ (e : Event). record { entry = e .entry; call = e .helped }) (select isCommit h)
 
--- The last entry of some events, 0 where there is none.
+-- The entry of the last of some events, n where there is none.
 abbrev pub lastEntry : ℕ → List Event → ℕ
 lastEntry n [] = n
 lastEntry n (e ∷ es) = lastEntry (e .entry) es
