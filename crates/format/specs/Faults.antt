@@ -142,6 +142,10 @@ abbrev pub unreadable : Option Item → Bool
 unreadable none = true
 unreadable (some i) = false
 
+-- The most entries of a schedule.
+abbrev pub mostEntries : ℕ
+mostEntries = 4000
+
 -- The 33rd update, the 17th move, the 4,001st entry.
 abbrev pub oneTooMany : Draft → Option Item → Bool
 oneTooMany d none = false
@@ -150,7 +154,7 @@ oneTooMany d (some (job j)) = false
 oneTooMany d (some (block ws)) = false
 oneTooMany d (some update) = leb 32 (length (d .plan .updates))
 oneTooMany d (some (move m)) = leb 16 (length (lastOf (d .plan .updates)))
-oneTooMany d (some (entry e)) = leb 4000 (d .entries)
+oneTooMany d (some (entry e)) = leb mostEntries (d .entries)
 
 -- Whether a line has a fault, after lines that gave the draft d. The rows of the table, in its order.
 abbrev pub hasFault : Form → Draft → Record → Fault → Bool

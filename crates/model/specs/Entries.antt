@@ -54,7 +54,8 @@ judgeStep plan m card =
     cond (leb (plan .sizes .cards) card) (Judgement.Refused Refusal.NoCard)
     (judgeRunning (runsOn plan m card (plan .sizes .jobs)))
 
--- What an entry comes to: kind 0 calls job `first` with update `second`, kind 1 steps card `first`.
+-- What an entry comes to: kind 0 calls job `first` with update `second`, kind 1 steps card `first`. Entries of another
+-- kind are refused before any entry runs (crate `runs`); here they would count as steps.
 unfoldable pub judge : Plan → Machine → Entry → Judgement
 judge plan m e = cond (eqb (e .kind) 0) (judgeCall plan m (e .first) (e .second)) (judgeStep plan m (e .first))
 

@@ -27,7 +27,7 @@ pub record Commit : Type 0 where
   pub entry : ℕ
   pub call : ℕ
 
--- The entry of a number.
+-- The entry of a number, from 1.
 abbrev pub entryAt : List Entry → ℕ → Entry
 entryAt entries n = getD entries (n - 1) (record { kind = 0; first = 0; second = 0 })
 

@@ -10,10 +10,10 @@ use borrow.Author.Tests.{leb-true}
 use lib.ListN.{length, take, drop, replicate, length-append, length-drop}
 use lib.Seq.{take-append-seam, drop-append-seam}
 use Rattle.text.specs.Bytes.{bytes}
-use Rattle.format.specs.declared.Entry.{Entry}
 use Rattle.text.specs.Decimal.{decimal}
 use Rattle.text.specs.Lines.{lines, fields}
 use Rattle.text.specs.Numbers.{number}
+use Rattle.format.specs.declared.Entry.{Entry}
 use Rattle.format.specs.Plan.{written}
 use Rattle.format.specs.Kinds.{kindOf}
 use Rattle.format.specs.Items.{recordOf}
@@ -71,7 +71,7 @@ pub record Row : Type 0 where
   pub handed : String
   pub left : String
 
--- A refusal that leaves the buffer untouched.
+-- A row whose answer leaves a buffer of four bytes untouched.
 abbrev pub untouched : Outcome → ℕ → ℕ → Row
 untouched o number line = record { outcome = o; room = 4; number = number; line = line; handed = ""; left = "xxxx" }
 

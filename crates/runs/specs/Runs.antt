@@ -10,6 +10,7 @@ use Rattle.format.specs.declared.Entry.{Entry}
 use Rattle.format.specs.declared.Fault.{Fault}
 use Rattle.format.specs.declared.Form.{Form}
 use Rattle.format.specs.Plan.{Plan, Listed}
+use Rattle.format.specs.Faults.{mostEntries}
 use Rattle.format.specs.Reading.{Reading, refusal, accepted, reading}
 use Rattle.model.specs.declared.Refusal.{Refusal}
 use Rattle.runs.specs.declared.End.{End}
@@ -59,10 +60,6 @@ otherFrom n (e ∷ es) = cond (isOther e) (some n) (otherFrom (n + 1) es)
 abbrev pub unlessOther : Option ℕ → Outcome → Outcome
 unlessOther none o = o
 unlessOther (some place) o = refused Fault.Misplaced place
-
--- The most entries of a schedule.
-abbrev pub mostEntries : ℕ
-mostEntries = 4000
 
 -- "After the text's check and before any runs, over 4,000 records give 5 at place 4,001, else the first record of
 -- another kind gives 3 ..; these and 11 to 14 give the record's place from 1 as their line, and acceptance gives their
