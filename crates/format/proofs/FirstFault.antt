@@ -21,7 +21,7 @@ use Rattle.text.specs.Lines.{Line, lines}
 use Rattle.format.specs.declared.Fault.{Fault}
 use Rattle.format.specs.declared.Form.{Form}
 use Rattle.format.specs.Plan.{Plan, Listed}
-use Rattle.format.specs.Items.{Item}
+use Rattle.format.specs.Items.{Item, Record}
 use Rattle.format.specs.Faults.{Draft, numberOf, hasFault, laidOut}
 use Rattle.format.specs.Reading.{blank, after, recordIn, afterLine, byNumber, firstOf}
 use Rattle.format.specs.Reading.{Outcome, refused, sound, orElse, readLines}
@@ -58,20 +58,20 @@ same-number : (f g : Fault) → numberOf f ≡ numberOf g → f ≡ g
 same-number f g e = sym (numbered f .2) ∙ ap faultOf e ∙ numbered g .2
 
 -- No fault is there.
-abbrev Clear : (Fault → Bool) → Type 0
+abbrev pub Clear : (Fault → Bool) → Type 0
 Clear has = (g : Fault) → has g ≡ false
 
 -- No fault with a number below n is there.
-abbrev ClearBelow : ℕ → (Fault → Bool) → Type 0
+abbrev pub ClearBelow : ℕ → (Fault → Bool) → Type 0
 ClearBelow n has = (g : Fault) → numberOf g < n → has g ≡ false
 
 -- A fault is there, and none with a lower number.
-record Lowest (has : Fault → Bool) (f : Fault) : Type 0 where
-  here : has f ≡ true
-  lower : ClearBelow (numberOf f) has
+pub record Lowest (has : Fault → Bool) (f : Fault) : Type 0 where
+  pub here : has f ≡ true
+  pub lower : ClearBelow (numberOf f) has
 
 -- What is found is the lowest fault, and where nothing is found no fault is there.
-abbrev Found : (Fault → Bool) → Option Fault → Type 0
+abbrev pub Found : (Fault → Bool) → Option Fault → Type 0
 Found has none = Clear has
 Found has (some f) = Lowest has f
 
@@ -95,6 +95,12 @@ first-lowest has (f ∷ fs) n through below = go (has f) refl (first-lowest has 
         → Found has (cond b (some f) (firstOf has fs))
     go true e rest = record { here = e; lower = λ g h. below g (omega arith) }
     go false e rest = rest (λ g h. next e g h (ℕ-discrete (numberOf g) (numberOf f)))
+
+-- What is found in a line is its lowest fault.
+pub line-lowest :
+    (form : Form) (d : Draft) (r : Record) → Found (hasFault form d r) (firstOf (hasFault form d r) byNumber)
+line-lowest form d r =
+    first-lowest (hasFault form d r) faults 1 (omega arith) (λ g h. absurd (omega (arith, numbered g .0)))
 
 -- Where only f can be there, by one test: f is the lowest where the test passes, and none is there where it fails.
 sole : (f : Fault) (b : Bool) → Found (λ g. eqb (numberOf g) (numberOf f) && b) (cond b (some f) none)
@@ -167,8 +173,7 @@ lines-right form d [] = go (laidOut d) (sole Fault.Misplaced (not (laidOut d)))
 lines-right form d (l ∷ ls) =
     right-step (λ i. nextHas form (draftAfter d (take i (l ∷ ls))) (drop i (l ∷ ls))) (d .lines + 1)
     (firstOf (hasFault form d (recordIn d l)) byNumber) (readLines form (afterLine d l) ls)
-    (first-lowest (hasFault form d (recordIn d l)) faults 1 (omega arith)
-    (λ g h. absurd (omega (arith, numbered g .0))))
+    (line-lowest form d (recordIn d l))
     (rw (one-more d (recordIn d l .item)) at (lines-right form (afterLine d l) ls))
 
 -- A reading is right: a refusal names what leads, and where the text is accepted no fault is there.

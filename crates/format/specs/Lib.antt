@@ -6,3 +6,4 @@ pub mod Faults
 pub mod Reading
 pub mod FirstFault
 pub mod Stored
+pub mod Sound
