@@ -11,3 +11,4 @@ pub mod Machine
 pub mod Entries
 pub mod History
 pub mod Demand3
+pub mod StockRule

@@ -136,6 +136,10 @@ module _ (plan : Plan) (s : Shared) (p : ℕ) where
   abbrev pub mayCommit : Working → Bool
   mayCommit w = sameVersion (s .v) (w .ver) && same (s .stat (w .hid)) (w .wid)
 
+  -- After H25 is done: to H32 with the reclaimed copy list, the marks cleared.
+  abbrev pub afterDeciding : Working → Working
+  afterDeciding w = goto Place.H32 (cleared (withCopy (reclaimed w) w))
+
   -- After H41: on to the next listed block, or to H42 after the last.
   abbrev pub afterStore : Working → Working
   afterStore w = goto (if ltb (w .j + 1) (w .numblks) then Place.H36 else Place.H42) (nextBlock w)
@@ -220,9 +224,7 @@ module _ (plan : Plan) (s : Shared) (p : ℕ) where
   -- H25: if V = ver and Stat[hid] = −1, Stat[hid] := p (the update is now decided) and the replaced block numbers, in
   -- listing order, take the first places of p's copy list. In either case clear the marks.
   item Place.H25 w =
-      if mayDecide w
-      then doing (Store.Stat (w .hid) (pos p)) (goto Place.H32 (cleared (withCopy (reclaimed w) w)))
-      else quiet (goto Place.H32 (cleared w))
+      if mayDecide w then doing (Store.Stat (w .hid) (pos p)) (afterDeciding w) else quiet (goto Place.H32 (cleared w))
   -- H32: wid := Stat[hid]; −1 or N to A10.
   item Place.H32 w =
       if isUndecided (w .hid) || isFinished (w .hid)
@@ -234,7 +236,7 @@ module _ (plan : Plan) (s : Shared) (p : ℕ) where
       then quiet (goto Place.H42 (withRow (s .numblks (winner w)) w))
       else quiet (goto Place.H36 (withRow (s .numblks (winner w)) w))
   -- For each listed block: H36, V not ver, to A10.
-  item Place.H36 w = if sameVersion (s .v) (w .ver) then quiet (goto Place.H37 w) else quiet (goto Place.A10 w)
+  item Place.H36 w = if not (sameVersion (s .v) (w .ver)) then quiet (goto Place.A10 w) else quiet (goto Place.H37 w)
   -- H37, Stat[hid] = N, to A10.
   item Place.H37 w = if isFinished (w .hid) then quiet (goto Place.A10 w) else quiet (goto Place.H38 w)
   -- H38, read wid's address, old, new.

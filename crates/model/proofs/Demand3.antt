@@ -1,0 +1,50 @@
+-- Demand 3: of every plan that the reader accepts, and of every list of entries, refused ones included.
+--
+-- The argument. What acceptance says of a plan is a law of the reader (Sound.antt of crate format): numbers in range,
+-- jobs of a card with different priorities, at most C blocks written by an update. With it the layers of the invariant
+-- hold at the opening and are kept by every entry (Reached.antt), so they hold after every list of entries; and they
+-- say what demand 3 says (Answer.antt). The first entries of a list are a list, so this is so at the start and after
+-- each entry up to the first refused one, that one included.
+--
+-- The length of the list is not used: the theorem holds of longer lists than a schedule can have.
+use Prim.Native.Nat.{ℕ}
+use mathlib.Core.Path.{_≡_}
+use mathlib.Core.Bool.{false}
+use mathlib.Core.List.{List}
+use lib.ListN.{take}
+use Rattle.format.specs.declared.Form.{Form}
+use Rattle.format.specs.declared.Entry.{Entry}
+use Rattle.format.specs.Plan.{Plan, Listed}
+use Rattle.format.specs.Sound.{Sound}
+use Rattle.format.specs.Reading.{reading, accepted}
+use Rattle.format.proofs.Sound.{accepted-sound}
+use Rattle.model.specs.History.{runOf}
+use Rattle.model.specs.Demand3.{isOpen, Holds, Demand3}
+use Rattle.model.specs.StockRule.{StockRule}
+use Rattle.model.proofs.Reached.{Layers, always}
+use Rattle.model.proofs.Answer.{holds-of}
+use Rattle.model.proofs.StockRule.{stock-when-none-open}
+
+-- After any entries, what demand 3 says of a run holds.
+holds-after : (plan : Plan) → Sound plan → (es : List Entry) → Holds plan es (runOf plan es)
+holds-after plan ok es =
+    let l : Layers plan es _ _ = always plan ok es .layers in
+    holds-of plan ok es (runOf plan es) (l .mem) (l .counts) (l .cards) (l .epochs) (l .contents) (l .bypass) (l .told)
+
+-- Demand 3.
+pub demand3 :
+    (form : Form) (text : List ℕ) (plan : Plan) (listed : List Listed) (lines : ℕ)
+    → reading form text ≡ accepted plan listed lines → (es : List Entry) → Demand3 plan es
+demand3 form text plan listed lines read es =
+    record { always = λ n. holds-after plan (accepted-sound form text plan listed lines read) (take n es) }
+
+-- The stock rule: after any entries, if no update is decided and uncommitted, each of the B + NC block numbers stands
+-- once in the bank and the copy lists, and none is missing.
+pub stock-rule :
+    (form : Form) (text : List ℕ) (plan : Plan) (listed : List Listed) (lines : ℕ)
+    → reading form text ≡ accepted plan listed lines → (es : List Entry)
+    → ((c : ℕ) → isOpen (runOf plan es .history) c ≡ false) → StockRule plan (runOf plan es .machine)
+stock-rule form text plan listed lines read es none =
+    let l : Layers plan es _ _ = always plan (accepted-sound form text plan listed lines read) es .layers in
+    stock-when-none-open plan es (runOf plan es) (l .mem) (l .counts) (l .cards) (l .epochs) (l .contents) (l .told)
+    none

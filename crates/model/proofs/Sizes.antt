@@ -1,0 +1,48 @@
+-- The lengths of the machine's arrays, and which stores stay inside them: what it takes for the list machine to do
+-- what the view by functions says. Assumes nothing.
+use Prim.Native.Nat.{ℕ, _+_, _<_}
+use mathlib.Core.Path.{_≡_}
+use mathlib.Core.List.{[]}
+use lib.ListN.{length, getD}
+use Rattle.format.specs.Plan.{Plan}
+use Rattle.model.specs.declared.Working.{Working}
+use Rattle.model.specs.declared.Store.{Store}
+use Rattle.model.specs.Machine.{Machine, copyBlocks}
+use Rattle.model.proofs.View.{Proper}
+
+-- How many block numbers there are: B + NC.
+abbrev pub numbers : Plan → ℕ
+numbers plan = copyBlocks plan + plan .sizes .blocks
+
+-- Every array of a machine has its length.
+pub record Sized (m : Machine) : Type 0 where
+  pub ann : length (m .cells .ann) ≡ 8
+  pub stat : length (m .cells .stat) ≡ 17
+  pub trans : length (m .cells .trans) ≡ 16
+  pub bank : length (m .cells .bank) ≡ 16
+  pub numblks : length (m .cells .numblks) ≡ 16
+  pub jobs : length (m .jobs) ≡ 16
+  pub store : length (m .store) ≡ 2304
+  pub addrlists : length (m .addrlist) ≡ 16
+  pub oldlists : length (m .oldlist) ≡ 16
+  pub newlists : length (m .newlist) ≡ 16
+  pub addrlist : (k : ℕ) → k < 16 → length (getD (m .addrlist) k []) ≡ 16
+  pub oldlist : (k : ℕ) → k < 16 → length (getD (m .oldlist) k []) ≡ 16
+
+-- Every array of a working record has its length.
+pub record Roomy (w : Working) : Type 0 where
+  pub dirty : length (w .dirty) ≡ 16
+  pub curr : length (w .curr) ≡ 16
+
+-- A store stays inside the arrays, and statuses stay proper.
+abbrev pub Fits : Plan → Store → Type 0
+Fits plan Store.Nothing = Unit {0}
+Fits plan (Store.Version n f) = Unit {0}
+Fits plan (Store.Ann r k) = r < 8
+Fits plan (Store.Stat k x) = (k < 17) × Proper x
+Fits plan (Store.Trans k u) = k < 16
+Fits plan (Store.Listed i a b) = i < 16
+Fits plan (Store.Block from to) = (from < numbers plan) × (to < numbers plan)
+Fits plan (Store.Word b i x) = (b < numbers plan) × (i < plan .sizes .words)
+Fits plan Store.Published = Unit {0}
+Fits plan (Store.Bank b n) = b < 16

@@ -1,0 +1,99 @@
+-- Case splits on the tests of the step list: what an item gives by a test, by what is left of a move, of an update or
+-- of a row; and what a test says. Assumes nothing.
+use Prim.Native.Nat.{ℕ, _+_}
+use mathlib.Core.Path.{_≡_, refl, sym, _∙_}
+use mathlib.Core.Bool.{Bool, true, false, _&&_, _||_, true≢false, false≢true}
+use mathlib.Core.List.{List, [], _∷_}
+use lib.Dec.{eqb}
+use borrow.Author.Tests.{eq-eqb, eqb-true}
+use Rattle.format.specs.declared.Move.{Move}
+use Rattle.format.specs.Plan.{Plan}
+use Rattle.model.specs.declared.Stage.{Stage}
+use Rattle.model.specs.declared.Place.{Place}
+use Rattle.model.specs.declared.Version.{Version}
+use Rattle.model.specs.declared.Working.{Working}
+use Rattle.model.specs.Lists.{if_then_else_}
+use Rattle.model.specs.Moves.{begin, onward}
+use Rattle.model.specs.Working.{goto, withAccess}
+use Rattle.model.specs.Steps.{sameFlag, sameVersion}
+
+-- A choice by a test keeps the test's answer.
+pub test : {A : Type 0} (Q : A → Type 0) (b : Bool) (x y : A) → (b ≡ true → Q x) → (b ≡ false → Q y)
+    → Q (if b then x else y)
+unfolding if_then_else_
+test Q true x y f g = f refl
+test Q false x y f g = g refl
+
+-- After a read or a write: at the next one's check, or at H22.
+pub onward-elim : (Q : Working → Type 0) (plan : Plan) (w : Working)
+    → ((m a : ℕ) → Q (goto (Place.Move Stage.Check) (withAccess m a w)))
+    → ((m a : ℕ) → Q (goto Place.H22 (withAccess m a w))) → Q (onward plan w)
+onward-elim Q plan w f g =
+    test Q _ _ _ (λ _. f _ _) (λ _. test (λ a. Q (goto a (withAccess (w .index + 1) 0 w))) _ _ _ (λ _. f _ _)
+    (λ _. g _ _))
+
+-- After H41: at the next listed block, or at H42.
+pub store-elim : (Q : Place → Type 0) (b : Bool) → Q Place.H36 → Q Place.H42 → Q (if b then Place.H36 else Place.H42)
+store-elim Q b f g = test Q _ _ _ (λ _. f) (λ _. g)
+
+-- After H21: at the first move's first check, or at H22.
+pub begin-elim : (Q : Place → Type 0) (ms : List Move) → Q (Place.Move Stage.Check) → Q Place.H22 → Q (begin ms)
+begin-elim Q [] f g = g
+begin-elim Q (m ∷ ms) f g = f
+
+-- Both halves of a test that holds.
+pub and-l : (a b : Bool) → (a && b) ≡ true → a ≡ true
+and-l true b h = refl
+and-l false b h = h
+
+-- The second half.
+pub and-r : (a b : Bool) → (a && b) ≡ true → b ≡ true
+and-r true b h = h
+and-r false b h = absurd (false≢true h)
+
+-- Either half of a test that fails.
+pub or-l : (a b : Bool) → (a || b) ≡ false → a ≡ false
+or-l true b h = h
+or-l false b h = refl
+
+-- The second half.
+pub or-r : (a b : Bool) → (a || b) ≡ false → b ≡ false
+or-r true b h = absurd (true≢false h)
+or-r false b h = h
+
+-- Flags that are the same by the test are equal.
+same-flag : (a b : Bool) → sameFlag a b ≡ true → a ≡ b
+same-flag true true h = refl
+same-flag true false h = absurd (false≢true h)
+same-flag false true h = absurd (false≢true h)
+same-flag false false h = refl
+
+-- A flag is the same as itself.
+flag-refl : (a : Bool) → sameFlag a a ≡ true
+flag-refl true = refl
+flag-refl false = refl
+
+-- Versions with one count and one flag are equal.
+version-path : (a b : Version) → a .count ≡ b .count → a .flag ≡ b .flag → a ≡ b
+version-path a b p q = λ i. record { count = p i; flag = q i }
+
+-- V = ver by the test: the versions are equal.
+pub same-version : (a b : Version) → sameVersion a b ≡ true → b ≡ a
+unfolding sameVersion
+same-version a b h =
+    sym
+    (version-path a b (eqb-true _ _ (and-l (eqb (a .count) (b .count)) (sameFlag (a .flag) (b .flag)) h))
+    (same-flag _ _ (and-r (eqb (a .count) (b .count)) (sameFlag (a .flag) (b .flag)) h)))
+
+-- A version is the same as itself.
+version-refl : (a : Version) → sameVersion a a ≡ true
+unfolding sameVersion
+version-refl a = rw (eq-eqb (a .count) (a .count) refl) (flag-refl (a .flag))
+
+-- A failed test of V and another thing, for a job whose version is V: the other thing failed.
+pub failed : (a b : Version) (t : Bool) → (sameVersion a b && t) ≡ false → b ≡ a → t ≡ false
+failed a b t h e = rw (version-refl a) at (rw e at h)
+
+-- A failed test of V: the version is not V.
+pub stale : (a b : Version) → sameVersion a b ≡ false → b ≡ a → ⊥
+stale a b h e = true≢false (sym (version-refl a) ∙ rw e at h)
