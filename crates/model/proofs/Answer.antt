@@ -12,25 +12,24 @@
 use Prim.Native.Nat.{ℕ, _≤_, _<_, _%_}
 use mathlib.Core.Path.{_≡_, refl, sym, _∙_, ap, subst}
 use mathlib.Core.Logic.{_≢_}
-use mathlib.Core.Bool.{Bool, true, false, true≢false, false≢true}
-use mathlib.Core.List.{List, [], _∷_}
+use mathlib.Core.Bool.{true, false, true≢false, false≢true}
+use mathlib.Core.List.{List}
 use native.Mathlib.Decide.{ℕ-discrete}
 use native.Mathlib.Omega.{arith}
 use lib.ListN.{length}
 use borrow.Author.Tests.{lt-ltb}
-use Rattle.text.proofs.Cases.{by-test, neither}
+use Rattle.text.proofs.Cases.{by-test}
 use Rattle.format.specs.declared.Entry.{Entry}
 use Rattle.format.specs.Plan.{Plan, any}
 use Rattle.format.specs.Sound.{Sound}
-use Rattle.model.specs.declared.Place.{Place}
-use Rattle.model.specs.Lists.{select, afterFirst}
+use Rattle.model.specs.Lists.{select}
 use Rattle.model.specs.Memory.{jobOf, updateOf, movesOf, afterUpdate}
 use Rattle.model.specs.Places.{isActive}
 use Rattle.model.specs.Steps.{jobIn}
 use Rattle.model.specs.Machine.{Machine, blockIn, seen}
 use Rattle.model.specs.History.{Event, announces, commits, returns, commitsIn, latest, Run}
 use Rattle.model.specs.Demand3.{isOpen, isStored, cardOf, passing, memoryAfter, Holds}
-use Rattle.model.proofs.View.{Status, undecided, decided, finished, isFinished, State, stateIn}
+use Rattle.model.proofs.View.{decided, isFinished, State, stateIn}
 use Rattle.model.proofs.SmallSteps.{exec, layout}
 use Rattle.model.proofs.Attempts.{settledBank}
 use Rattle.model.proofs.Running.{seen-in}
@@ -44,7 +43,8 @@ use Rattle.model.proofs.Cards.{
   look,
   loop,
   swap,
-  phaseAt,
+  awake,
+  active-phase,
   second,
   phase,
   announced,
@@ -53,78 +53,8 @@ use Rattle.model.proofs.Cards.{
 use Rattle.model.proofs.Epochs.{EpochsHold}
 use Rattle.model.proofs.Contents.{Ghost, ContentsHold}
 use Rattle.model.proofs.Bypass.{Tally, PhaseHolds, BypassHolds}
-use Rattle.model.proofs.Told.{isDecided, Taken, Closed, Told}
-
--- The phases of active jobs.
-abbrev Awake : Phase → Type 0
-Awake idle = ⊥
-Awake start = Unit {0}
-Awake clear = Unit {0}
-Awake (look r) = Unit {0}
-Awake (loop r) = Unit {0}
-Awake (swap r) = Unit {0}
-
--- An active job is in one of them.
-awake : (r : Bool) (place : Place) → isActive place ≡ true → Awake (phaseAt r place)
-awake r Place.Idle on = absurd (false≢true on)
-awake r Place.A1 on = tt
-awake r Place.A2 on = tt
-awake r Place.A4 on = tt
-awake r Place.A7 on = tt
-awake r Place.A10 on = tt
-awake r Place.A12 on = tt
-awake r Place.A14 on = tt
-awake r Place.A15 on = tt
-awake r Place.H16 on = tt
-awake r Place.H17 on = tt
-awake r Place.H21 on = tt
-awake r (Place.Move st) on = tt
-awake r Place.H22 on = tt
-awake r Place.H25 on = tt
-awake r Place.H32 on = tt
-awake r Place.H34 on = tt
-awake r Place.H36 on = tt
-awake r Place.H37 on = tt
-awake r Place.H38 on = tt
-awake r Place.H41 on = tt
-awake r Place.H42 on = tt
-
--- An announced job is past A1.
-taken : (r : Bool) (place : Place) → announced (phaseAt r place) ≡ true → Taken place
-taken r Place.Idle a = absurd (false≢true a)
-taken r Place.A1 a = absurd (false≢true a)
-taken r Place.A2 a = tt
-taken r Place.A4 a = tt
-taken r Place.A7 a = tt
-taken r Place.A10 a = tt
-taken r Place.A12 a = tt
-taken r Place.A14 a = tt
-taken r Place.A15 a = tt
-taken r Place.H16 a = tt
-taken r Place.H17 a = tt
-taken r Place.H21 a = tt
-taken r (Place.Move st) a = tt
-taken r Place.H22 a = tt
-taken r Place.H25 a = tt
-taken r Place.H32 a = tt
-taken r Place.H34 a = tt
-taken r Place.H36 a = tt
-taken r Place.H37 a = tt
-taken r Place.H38 a = tt
-taken r Place.H41 a = tt
-taken r Place.H42 a = tt
-
--- Nothing comes after the first that passes a test, where none does.
-none-after : {A : Type 0} (f : A → Bool) (xs : List A) → any f xs ≡ false → afterFirst f xs ≡ []
-none-after f [] e = refl
-none-after f (x ∷ xs) e =
-    let n = neither (f x) (any f xs) e in rw (n .0) (none-after f xs (n .1))
-
--- A status that is a job's number, and the number.
-decided-by : (x : Status) → isDecided x ≡ true → (w : ℕ) × (x ≡ decided w)
-decided-by undecided e = absurd (false≢true e)
-decided-by (decided w) e = (w, refl)
-decided-by finished e = absurd (false≢true e)
+use Rattle.model.proofs.Told.{isDecided, decided-by, announced-taken, Closed, Told}
+use Rattle.model.proofs.Events.{after-none}
 
 -- The words of block b seen through the bank are those of some memory, where the view's are.
 content-seen :
@@ -190,9 +120,9 @@ module _
   module _ (bypass : BypassHolds (layout plan) (s .sh .v) (s .sh .ann) (s .sh .stat) (s .job) H) where
     -- Before its announcement a call of an active job has not committed.
     none-before :
-        (k : ℕ) (ph : Phase) → Awake ph → announced ph ≡ false
+        (k : ℕ) (ph : Phase) → awake ph ≡ true → announced ph ≡ false
         → PhaseHolds (layout plan) (s .sh .v) (s .sh .ann) (s .sh .stat) H k ph → H .committed k ≡ 0
-    none-before k idle a e x = absurd a
+    none-before k idle a e x = absurd (false≢true a)
     none-before k start a e x = x
     none-before k clear a e x = absurd (true≢false e)
     none-before k (look true) a e x = absurd (true≢false e)
@@ -210,8 +140,11 @@ module _
         by-test (isFinished (s .sh .stat k)) (λ f. omega (arith, bypass .once k a f))
         (λ f. omega (arith, bypass .none-yet k f)))
         (λ a.
-        omega
-        (arith, none-before k (phase (s .job k)) (awake (second (s .job k)) (s .job k .place) on) a (bypass .parts k)))
+        omega (
+          arith,
+          none-before k (phase (s .job k)) (sym (active-phase (second (s .job k)) (s .job k .place)) ∙ on) a
+              (bypass .parts k),
+        ))
 
     -- A call has committed at most once.
     once : (c : ℕ) → length (select (commits c) h) ≤ 1
@@ -234,7 +167,7 @@ module _
             by-test (announced (phase (s .job k)))
             (λ a. omega (arith, told .current k on .passing-are a card own, bypass .bound k card a own))
             (λ a.
-            rw (none-after (announces (latest k h)) h (told .current k on .announced-is ∙ a)) (omega arith))
+            rw (after-none (announces (latest k h)) h (told .current k on .announced-is ∙ a)) (omega arith))
         go (closed x) n = x .passed card n
 
   module _ (cards : CardsHold (layout plan) s) (epochs : EpochsHold (layout plan) s) where
@@ -268,7 +201,7 @@ module _
     update-is : (c : ℕ) (x : Deciding c) → s .sh .trans (x .job) ≡ updateOf es c
     update-is c x =
         told .trans-of (x .job)
-        (taken (second (s .job (x .job))) (s .job (x .job) .place)
+        (announced-taken (second (s .job (x .job))) (s .job (x .job) .place)
         (decided-announced (x .job) (x .winner) (x .status)))
         ∙ sym (told .update-of (x .job) (x .active))
         ∙ ap (updateOf es) (x .latest-is)

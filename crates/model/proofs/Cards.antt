@@ -79,6 +79,40 @@ announced (look r) = r
 announced (loop r) = r
 announced (swap r) = r
 
+-- Active, by the phase.
+abbrev pub awake : Phase → Bool
+awake idle = false
+awake start = true
+awake clear = true
+awake (look r) = true
+awake (loop r) = true
+awake (swap r) = true
+
+-- A job is active exactly when its phase is not idle.
+pub active-phase : (r : Bool) (pl : Place) → isActive pl ≡ awake (phaseAt r pl)
+active-phase r Place.Idle = refl
+active-phase r Place.A1 = refl
+active-phase r Place.A2 = refl
+active-phase r Place.A4 = refl
+active-phase r Place.A7 = refl
+active-phase r Place.A10 = refl
+active-phase r Place.A12 = refl
+active-phase r Place.A14 = refl
+active-phase r Place.A15 = refl
+active-phase r Place.H16 = refl
+active-phase r Place.H17 = refl
+active-phase r Place.H21 = refl
+active-phase r (Place.Move st) = refl
+active-phase r Place.H22 = refl
+active-phase r Place.H25 = refl
+active-phase r Place.H32 = refl
+active-phase r Place.H34 = refl
+active-phase r Place.H36 = refl
+active-phase r Place.H37 = refl
+active-phase r Place.H38 = refl
+active-phase r Place.H41 = refl
+active-phase r Place.H42 = refl
+
 -- What the clauses of this layer read of a state: the announcements, whose status is N, who is announced and not yet
 -- returned, and who is active.
 pub record Board : Type 0 where

@@ -6,6 +6,7 @@ use mathlib.Core.Bool.{Bool, true, false, _&&_, _||_, true≢false, false≢true
 use mathlib.Core.List.{List, [], _∷_}
 use lib.Dec.{eqb}
 use borrow.Author.Tests.{eq-eqb, eqb-true}
+use Rattle.text.proofs.Cases.{both, neither}
 use Rattle.format.specs.declared.Move.{Move}
 use Rattle.format.specs.Plan.{Plan}
 use Rattle.model.specs.declared.Stage.{Stage}
@@ -41,25 +42,21 @@ pub begin-elim : (Q : Place → Type 0) (ms : List Move) → Q (Place.Move Stage
 begin-elim Q [] f g = g
 begin-elim Q (m ∷ ms) f g = f
 
--- Both halves of a test that holds.
+-- The halves of a test that holds.
 pub and-l : (a b : Bool) → (a && b) ≡ true → a ≡ true
-and-l true b h = refl
-and-l false b h = h
+and-l a b h = both a b h .0
 
 -- The second half.
 pub and-r : (a b : Bool) → (a && b) ≡ true → b ≡ true
-and-r true b h = h
-and-r false b h = absurd (false≢true h)
+and-r a b h = both a b h .1
 
--- Either half of a test that fails.
+-- The halves of a test that fails.
 pub or-l : (a b : Bool) → (a || b) ≡ false → a ≡ false
-or-l true b h = h
-or-l false b h = refl
+or-l a b h = neither a b h .0
 
 -- The second half.
 pub or-r : (a b : Bool) → (a || b) ≡ false → b ≡ false
-or-r true b h = absurd (true≢false h)
-or-r false b h = h
+or-r a b h = neither a b h .1
 
 -- Flags that are the same by the test are equal.
 same-flag : (a b : Bool) → sameFlag a b ≡ true → a ≡ b

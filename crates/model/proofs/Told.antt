@@ -12,9 +12,9 @@
 --
 -- Assumes nothing here; the laws about it assume the layers before.
 use Prim.Native.Nat.{ℕ, _≤_, _<_}
-use mathlib.Core.Path.{_≡_}
+use mathlib.Core.Path.{_≡_, refl}
 use mathlib.Core.Logic.{_≢_, _⊎_}
-use mathlib.Core.Bool.{Bool, true, false}
+use mathlib.Core.Bool.{Bool, true, false, false≢true}
 use mathlib.Core.List.{List}
 use lib.ListN.{length}
 use Rattle.format.specs.declared.Entry.{Entry}
@@ -29,7 +29,7 @@ use Rattle.model.specs.Demand3.{isOpen, isStored, cardOf, passing, memor
 use Rattle.model.proofs.View.{Status, undecided, decided, finished, State}
 use Rattle.model.proofs.Words.{blocksOf}
 use Rattle.model.proofs.Growing.{Within}
-use Rattle.model.proofs.Cards.{phase, announced}
+use Rattle.model.proofs.Cards.{phaseAt, phase, announced}
 use Rattle.model.proofs.Contents.{Ghost}
 use Rattle.model.proofs.Bypass.{Tally}
 
@@ -38,6 +38,12 @@ abbrev pub isDecided : Status → Bool
 isDecided undecided = false
 isDecided (decided w) = true
 isDecided finished = false
+
+-- What is a job's number is some job's.
+pub decided-by : (x : Status) → isDecided x ≡ true → (w : ℕ) × (x ≡ decided w)
+decided-by undecided y = absurd (false≢true y)
+decided-by (decided w) y = (w, refl)
+decided-by finished y = absurd (false≢true y)
 
 -- The places past A1.
 abbrev pub Taken : Place → Type 0
@@ -63,6 +69,31 @@ Taken Place.H37 = Unit {0}
 Taken Place.H38 = Unit {0}
 Taken Place.H41 = Unit {0}
 Taken Place.H42 = Unit {0}
+
+-- An announced job is past A1.
+pub announced-taken : (r : Bool) (a : Place) → announced (phaseAt r a) ≡ true → Taken a
+announced-taken r Place.Idle y = absurd (false≢true y)
+announced-taken r Place.A1 y = absurd (false≢true y)
+announced-taken r Place.A2 y = tt
+announced-taken r Place.A4 y = tt
+announced-taken r Place.A7 y = tt
+announced-taken r Place.A10 y = tt
+announced-taken r Place.A12 y = tt
+announced-taken r Place.A14 y = tt
+announced-taken r Place.A15 y = tt
+announced-taken r Place.H16 y = tt
+announced-taken r Place.H17 y = tt
+announced-taken r Place.H21 y = tt
+announced-taken r (Place.Move st) y = tt
+announced-taken r Place.H22 y = tt
+announced-taken r Place.H25 y = tt
+announced-taken r Place.H32 y = tt
+announced-taken r Place.H34 y = tt
+announced-taken r Place.H36 y = tt
+announced-taken r Place.H37 y = tt
+announced-taken r Place.H38 y = tt
+announced-taken r Place.H41 y = tt
+announced-taken r Place.H42 y = tt
 
 -- No event speaks of call c.
 pub record Unused (h : List Event) (c : ℕ) : Type 0 where

@@ -104,12 +104,12 @@ use Rattle.model.proofs.Growing.{
   memory-after-commit,
 }
 use Rattle.model.proofs.Tests.{test, onward-elim, store-elim, begin-elim, and-l, and-r, same-version}
-use Rattle.model.proofs.Cards.{phaseAt, second, phase, announced, board, Runs, CardsHold}
+use Rattle.model.proofs.Cards.{second, phase, announced, board, Runs, CardsHold}
 use Rattle.model.proofs.Epochs.{kind, winnerOf, Widened, HelpHolds, chief, EpochsHold}
 use Rattle.model.proofs.Contents.{Ghost, ghostStat, ghost}
 use Rattle.model.proofs.Counts.{target}
 use Rattle.model.proofs.Bypass.{Tally, tallyStat, tally, tallyCall, BypassHolds}
-use Rattle.model.proofs.Told.{isDecided, Taken, Unused, Current, Closed, Told}
+use Rattle.model.proofs.Told.{announced-taken, decided-by, isDecided, Taken, Unused, Current, Closed, Told}
 use Rattle.model.proofs.Events.{
   length-last,
   none-passes,
@@ -177,31 +177,6 @@ module _ (plan : Plan) (es : List Entry) (h : List Event) (s : State) (H : Tally
 not-active : (a : Place) → a ≡ Place.Idle → isActive a ≡ true → ⊥
 not-active a e y = false≢true (rw e at y)
 
--- An announced job is past A1.
-announced-taken : (r : Bool) (a : Place) → announced (phaseAt r a) ≡ true → Taken a
-announced-taken r Place.Idle y = absurd (false≢true y)
-announced-taken r Place.A1 y = absurd (false≢true y)
-announced-taken r Place.A2 y = tt
-announced-taken r Place.A4 y = tt
-announced-taken r Place.A7 y = tt
-announced-taken r Place.A10 y = tt
-announced-taken r Place.A12 y = tt
-announced-taken r Place.A14 y = tt
-announced-taken r Place.A15 y = tt
-announced-taken r Place.H16 y = tt
-announced-taken r Place.H17 y = tt
-announced-taken r Place.H21 y = tt
-announced-taken r (Place.Move st) y = tt
-announced-taken r Place.H22 y = tt
-announced-taken r Place.H25 y = tt
-announced-taken r Place.H32 y = tt
-announced-taken r Place.H34 y = tt
-announced-taken r Place.H36 y = tt
-announced-taken r Place.H37 y = tt
-announced-taken r Place.H38 y = tt
-announced-taken r Place.H41 y = tt
-announced-taken r Place.H42 y = tt
-
 -- What is N is no job's number.
 finished-not : (x : Status) → isFinished x ≡ true → isDecided x ≡ false
 finished-not undecided y = refl
@@ -213,12 +188,6 @@ undecided-not : (x : Status) → isUndecided x ≡ true → (isDecided x ≡ fal
 undecided-not undecided y = (refl, refl)
 undecided-not (decided w) y = absurd (false≢true y)
 undecided-not finished y = absurd (false≢true y)
-
--- What is a job's number is some job's.
-decided-by : (x : Status) → isDecided x ≡ true → (w : ℕ) × (x ≡ decided w)
-decided-by undecided y = absurd (false≢true y)
-decided-by (decided w) y = (w, refl)
-decided-by finished y = absurd (false≢true y)
 
 -- The opening: nothing has happened.
 pub told-opening :
