@@ -32,8 +32,8 @@ use Rattle.line.specs.declared.LineRead.{LineRead}
 use Rattle.line.specs.Steps.{LineStep, Holds, Ranged, Roomy, withJobs, withWords, withMoves, withCounts, jobIn}
 use Rattle.line.proofs.Judged.{bad-fields, plan-judged, job-judged, block-judged}
 use Rattle.line.proofs.Judged.{update-judged, move-judged, entry-judged}
-use Rattle.line.proofs.Tables.{length-table}
-use Rattle.line.proofs.Stores.{table-same, table-more, last-is, added-last}
+use Rattle.format.proofs.Tables.{length-table, table-same, table-more}
+use Rattle.line.proofs.Stores.{last-is, added-last}
 
 -- The arrays still have room after stores to the jobs.
 roomy-jobs : (a : Arrays) (cs ps cs′ ps′ : List ℕ) → Roomy (withJobs a cs ps) → length cs′ ≡ length cs

@@ -7,19 +7,18 @@ use Prim.Native.Nat.{ℕ, zero, suc, _+_, _*_, _-_, _≤_, _<_}
 use mathlib.Core.Path.{_≡_, refl, sym, _∙_, ap, fun-ext}
 use mathlib.Core.Logic.{_≢_, _⊎_, inl, inr}
 use mathlib.Core.Bool.{true, false, cond}
-use mathlib.Core.List.{List, [], _∷_, _++_}
+use mathlib.Core.List.{List, _++_}
 use native.Mathlib.Nat.{mul-le-mul-right}
-use native.Mathlib.Decide.{ℕ-discrete, decLt}
+use native.Mathlib.Decide.{decLt}
 use native.Mathlib.Omega.{arith}
 use lib.Dec.{ltb}
-use lib.ListN.{length, getD, set, take, drop, replicate, length-append, length-drop, List·getD-append}
+use lib.ListN.{length, getD, set, take, drop, replicate, length-drop, List·getD-append}
 use lib.Seq.{
   paste,
   length-take-le,
   getD-set-same,
   getD-set-other,
   getD-append-add,
-  getD-at,
   getD-take,
   getD-drop,
   take-paste,
@@ -28,6 +27,7 @@ use lib.Seq.{
 use borrow.Author.Tests.{ltb-true, ltb-false, lt-ltb}
 use Rattle.text.proofs.Cases.{by-test}
 use Rattle.format.specs.Stored.{table}
+use Rattle.format.proofs.Tables.{length-table, getD-table}
 use Rattle.model.specs.Steps.{inFirstPlaces}
 use Rattle.model.proofs.Update.{upd, upd-elim}
 
@@ -59,22 +59,6 @@ pub getD-all {ℓ} : {A : Type ℓ} (n k : ℕ) (a : A) → getD (replicate n a)
 getD-all zero k a = refl
 getD-all (suc n) zero a = refl
 getD-all (suc n) (suc k) a = getD-all n k a
-
--- A table has its length.
-pub length-table : {A : Type 0} (n : ℕ) (f : ℕ → A) → length (table n f) ≡ n
-length-table zero f = refl
-length-table (suc n) f = omega (arith, length-append (table n f) (f n ∷ []), length-table n f)
-
--- A table, read at a place that it has.
-pub getD-table : {A : Type 0} (n : ℕ) (f : ℕ → A) (d : A) (i : ℕ) → i < n → getD (table n f) i d ≡ f i
-getD-table zero f d i h = absurd (omega arith)
-getD-table (suc n) f d i h = go (ℕ-discrete i n) (λ m. getD-table n f d i m)
-  where
-    go : Dec (i ≡ n) → (i < n → getD (table n f) i d ≡ f i) → getD (table (suc n) f) i d ≡ f i
-    go (yes e) before = getD-at (table n f) (f n) [] d i (length-table n f ∙ sym e) ∙ ap f (sym e)
-    go (no c) before =
-        let m : i < n = omega arith in
-        List·getD-append (table n f) (f n ∷ []) d i (rw (length-table n f) m) ∙ before m
 
 -- Two lists in a row, read behind the first.
 getD-behind {ℓ} :

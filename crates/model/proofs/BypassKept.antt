@@ -883,10 +883,10 @@ module _ (plan : Plan) (acc : Accepted (layout plan)) (sh : Shared) (job : ℕ �
 
 -- An accepted call of an idle job keeps the layer: the new call has not committed.
 pub bypass-called :
-    (P : Layout) (s : State) (H : Tally) (p u : ℕ) → CardsHold P s → s .job p .place ≡ Place.Idle
+    (P : Layout) (s : State) (H : Tally) (p u : ℕ)
     → BypassHolds P (s .sh .v) (s .sh .ann) (s .sh .stat) (s .job) H
     → BypassHolds P (s .sh .v) (s .sh .ann) (s .sh .stat) (upd (s .job) p (called u (s .job p))) (tallyCall p H)
-bypass-called P s H p u C off I =
+bypass-called P s H p u I =
     frame P (s .sh .v) (s .sh .ann) (s .sh .stat) (s .job) H I p (s .sh .ann) (s .sh .stat) (called u (s .job p))
     (upd (H .committed) p 0) (λ lo. absurd (false≢true lo))
     (λ k e. (refl, upd-other (H .committed) p 0 k (λ z. false≢true (e z))))

@@ -36,7 +36,7 @@ use Rattle.model.proofs.View.{
   decided≢finished,
   decider-same,
 }
-use Rattle.model.proofs.Arrays.{length-table, getD-table}
+use Rattle.format.proofs.Tables.{length-table, getD-table}
 use Rattle.model.proofs.SmallSteps.{Op, exec, Attempt, attempt, copyOf, Layout, layout}
 use Rattle.model.proofs.Attempts.{seen, Stock, settledBank, Live}
 use Rattle.model.proofs.Running.{seen-ext, live-other}

@@ -72,7 +72,7 @@ use Rattle.model.proofs.View.{
   decided≢finished,
 }
 use Rattle.model.proofs.Sizes.{Roomy, Fits}
-use Rattle.model.proofs.Arrays.{length-table}
+use Rattle.format.proofs.Tables.{length-table}
 use Rattle.model.proofs.Tests.{test, store-elim, and-l, and-r, or-l, or-r, same-version, failed, stale}
 use Rattle.model.proofs.SmallSteps.{
   Op,
@@ -137,18 +137,7 @@ use Rattle.model.proofs.RunsSeen.{
   clear-cleared,
   copy-reclaimed,
 }
-use Rattle.model.proofs.Cards.{
-  start,
-  phaseAt,
-  second,
-  phase,
-  announced,
-  board,
-  Accepted,
-  Runs,
-  OnBoard,
-  CardsHold,
-}
+use Rattle.model.proofs.Cards.{start, phaseAt, second, phase, announced, board, Runs, OnBoard, CardsHold}
 use Rattle.model.proofs.Epochs.{
   kind,
   winnerOf,
@@ -207,7 +196,7 @@ decided-else :
 unfolding statusIn
 decided-else n x u f = rw (u, f)
 
-module _ (plan : Plan) (ok : Sound plan) (acc : Accepted (layout plan)) (sh : Shared) (job : ℕ → Working)
+module _ (plan : Plan) (ok : Sound plan) (sh : Shared) (job : ℕ → Working)
     (C : CardsHold (layout plan) (record { sh = showing plan sh; job = job }))
     (D : EpochsHold (layout plan) (record { sh = showing plan sh; job = job })) (g : Ghost)
     (E : ContentsHold plan (record { sh = showing plan sh; job = job }) g) (p : ℕ)

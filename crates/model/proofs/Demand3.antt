@@ -10,7 +10,7 @@
 use Prim.Native.Nat.{ℕ}
 use mathlib.Core.Path.{_≡_}
 use mathlib.Core.Bool.{false}
-use mathlib.Core.List.{List}
+use mathlib.Core.List.{List, map}
 use lib.ListN.{take}
 use Rattle.format.specs.declared.Form.{Form}
 use Rattle.format.specs.declared.Entry.{Entry}
@@ -29,7 +29,7 @@ use Rattle.model.proofs.StockRule.{stock-when-none-open}
 holds-after : (plan : Plan) → Sound plan → (es : List Entry) → Holds plan es (runOf plan es)
 holds-after plan ok es =
     let l : Layers plan es _ _ = always plan ok es .layers in
-    holds-of plan ok es (runOf plan es) (l .mem) (l .counts) (l .cards) (l .epochs) (l .contents) (l .bypass) (l .told)
+    holds-of plan ok es (runOf plan es) (l .memory) (l .counts) (l .cards) (l .epochs) (l .contents) (l .bypass) (l .told)
 
 -- Demand 3.
 pub demand3 :
@@ -37,6 +37,13 @@ pub demand3 :
     → reading form text ≡ accepted plan listed lines → (es : List Entry) → Demand3 plan es
 demand3 form text plan listed lines read es =
     record { always = λ n. holds-after plan (accepted-sound form text plan listed lines read) (take n es) }
+
+-- So it holds of the entries that a text itself has.
+pub demand3-text :
+    (form : Form) (text : List ℕ) (plan : Plan) (listed : List Listed) (lines : ℕ)
+    → reading form text ≡ accepted plan listed lines → Demand3 plan (map (λ (l : Listed). l .entry) listed)
+demand3-text form text plan listed lines read =
+    demand3 form text plan listed lines read (map (λ (l : Listed). l .entry) listed)
 
 -- The stock rule: after any entries, if no update is decided and uncommitted, each of the B + NC block numbers stands
 -- once in the bank and the copy lists, and none is missing.
@@ -46,5 +53,5 @@ pub stock-rule :
     → ((c : ℕ) → isOpen (runOf plan es .history) c ≡ false) → StockRule plan (runOf plan es .machine)
 stock-rule form text plan listed lines read es none =
     let l : Layers plan es _ _ = always plan (accepted-sound form text plan listed lines read) es .layers in
-    stock-when-none-open plan es (runOf plan es) (l .mem) (l .counts) (l .cards) (l .epochs) (l .contents) (l .told)
+    stock-when-none-open plan es (runOf plan es) (l .memory) (l .counts) (l .cards) (l .epochs) (l .contents) (l .told)
     none

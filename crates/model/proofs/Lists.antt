@@ -22,6 +22,7 @@ use borrow.Author.Tests.{eqb-true, eq-eqb, ltb-true, ltb-false, lt-ltb, le-ltb, 
 use Rattle.text.proofs.Cases.{by-test, both, neither}
 use Rattle.format.specs.declared.Entry.{Entry}
 use Rattle.format.specs.Plan.{Plan}
+use Rattle.format.proofs.Tables.{getD-table}
 use Rattle.format.specs.Stored.{table}
 use Rattle.format.specs.Sound.{Sound}
 use Rattle.model.specs.declared.Place.{Place}
@@ -72,7 +73,6 @@ use Rattle.model.proofs.Arrays.{
   getD-set,
   getD-set-below,
   getD-all,
-  getD-table,
   first-places,
   paste-inside,
   word-stored,

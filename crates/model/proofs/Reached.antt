@@ -75,13 +75,13 @@ use Rattle.model.proofs.ToldKept.{told-opening, told-more, told-call, t
 
 -- All layers in a state: it has come about by the entries es, of which the history h tells.
 pub record Layers (plan : Plan) (es : List Entry) (h : List Event) (s : State) : Type 0 where
-  pub mem : Ghost
+  pub memory : Ghost
   pub counts : Tally
   pub cards : CardsHold (layout plan) s
   pub epochs : EpochsHold (layout plan) s
-  pub contents : ContentsHold plan s mem
+  pub contents : ContentsHold plan s memory
   pub bypass : BypassHolds (layout plan) (s .sh .v) (s .sh .ann) (s .sh .stat) (s .job) counts
-  pub told : Told plan es h s mem counts
+  pub told : Told plan es h s memory counts
 
 -- The invariant of a run: the arrays have their lengths, the statuses are proper, all layers hold, and unless an entry
 -- was refused the history tells of every entry.
@@ -121,8 +121,8 @@ inactive Place.H41 e = absurd (true≢false e)
 inactive Place.H42 e = absurd (true≢false e)
 
 module _ (plan : Plan) (ok : Sound plan) where
-  -- The opening.
-  opening-kept : Inv plan [] (begun plan)
+  -- The opening meets the invariant.
+  pub opening-kept : Inv plan [] (begun plan)
   unfolding begun
   opening-kept =
       record {
@@ -130,7 +130,7 @@ module _ (plan : Plan) (ok : Sound plan) where
         proper = proper-opening plan;
         layers =
             record {
-              mem = openingGhost plan;
+              memory = openingGhost plan;
               counts = openingTally;
               cards = opening-cards plan ok;
               epochs = opening-epochs plan ok;
@@ -147,13 +147,13 @@ module _ (plan : Plan) (ok : Sound plan) where
       → Layers plan (es ++ (e ∷ [])) h s
   layers-more es h s e L =
       record {
-        mem = L .mem;
+        memory = L .memory;
         counts = L .counts;
         cards = L .cards;
         epochs = L .epochs;
         contents = L .contents;
         bypass = L .bypass;
-        told = told-more plan es h s (L .mem) (L .counts) (L .told) e;
+        told = told-more plan es h s (L .memory) (L .counts) (L .told) e;
       }
 
   module _ (es : List Entry) (h : List Event) (m : Machine) (sized : Sized m)
@@ -175,14 +175,14 @@ module _ (plan : Plan) (ok : Sound plan) where
           layers =
               subst (Layers plan more (h ++ (callEvent h j ∷ []))) (sym (view-call plan ok m sized j u (a .has-job)))
               (record {
-                mem = L .mem;
+                memory = L .memory;
                 counts = tallyCall j (L .counts);
                 cards = cards-called (layout plan) (stateIn plan m) j u (L .cards) (a .has-job) off;
                 epochs = epochs-called (layout plan) (stateIn plan m) j u (L .epochs);
-                contents = contents-called plan (stateIn plan m) (L .mem) (L .epochs) j u off (L .contents);
-                bypass = bypass-called (layout plan) (stateIn plan m) (L .counts) j u (L .cards) off (L .bypass);
+                contents = contents-called plan (stateIn plan m) (L .memory) (L .epochs) j u off (L .contents);
+                bypass = bypass-called (layout plan) (stateIn plan m) (L .counts) j u (L .bypass);
                 told =
-                    told-call plan es h (stateIn plan m) (L .mem) (L .counts) e j u (L .told) len (a .first)
+                    told-call plan es h (stateIn plan m) (L .memory) (L .counts) e j u (L .told) len (a .first)
                     (a .second) off (L .cards);
               });
           in-step = λ _. length-last h (callEvent h j) ∙ ap (λ n. n + 1) len ∙ sym (length-more es e);
@@ -227,7 +227,7 @@ module _ (plan : Plan) (ok : Sound plan) where
       fits : Fits plan (o .store)
       unfolding stateIn
       fits =
-          contents-kept plan ok acc (sharedIn plan m) job (L .cards) (L .epochs) (L .mem) (L .contents) p running
+          contents-kept plan ok (sharedIn plan m) job (L .cards) (L .epochs) (L .memory) (L .contents) p running
           .fits
 
       -- All layers after it.
@@ -235,17 +235,17 @@ module _ (plan : Plan) (ok : Sound plan) where
       unfolding stateIn
       layers-after =
           record {
-            mem = ghost plan (stateIn plan m .sh) (o .store) (L .mem);
+            memory = ghost plan (stateIn plan m .sh) (o .store) (L .memory);
             counts = tally plan (stateIn plan m .sh) p (o .store) (L .counts);
             cards = cards-kept plan acc (sharedIn plan m) job (L .cards) p running;
             epochs = epochs-kept plan acc (sharedIn plan m) job (L .cards) (L .epochs) proper p running;
             contents =
-                contents-kept plan ok acc (sharedIn plan m) job (L .cards) (L .epochs) (L .mem) (L .contents) p
+                contents-kept plan ok (sharedIn plan m) job (L .cards) (L .epochs) (L .memory) (L .contents) p
                 running .kept;
             bypass =
                 bypass-kept plan acc (sharedIn plan m) job (L .cards) (L .epochs) (L .counts) (L .bypass) p running;
             told =
-                told-step plan ok es e h len (sharedIn plan m) job (L .mem) (L .counts) (L .told) (L .cards)
+                told-step plan ok es e h len (sharedIn plan m) job (L .memory) (L .counts) (L .told) (L .cards)
                 (L .epochs) (L .bypass) p running;
           }
 

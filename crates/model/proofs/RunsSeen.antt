@@ -22,6 +22,7 @@ use Rattle.text.proofs.Cases.{by-test}
 use Rattle.format.specs.declared.Move.{Move}
 use Rattle.format.specs.Plan.{Plan}
 use Rattle.format.specs.Stored.{table}
+use Rattle.format.proofs.Tables.{table-more}
 use Rattle.model.specs.declared.Stage.{Stage}
 use Rattle.model.specs.declared.Place.{Place}
 use Rattle.model.specs.declared.Working.{Working}
@@ -258,20 +259,6 @@ begin-ahead Q plan u w f g =
     (moves-from (plan .sizes .words) (getD (plan .updates) u []) 0 _ h refl))
     (λ e. g (ap (ofMoves (plan .sizes .words)) e))
 
--- A table is the same where its function is, below its length.
-table-same : {A : Type 0} (n : ℕ) (f g : ℕ → A) → ((i : ℕ) → i < n → f i ≡ g i) → table n f ≡ table n g
-table-same zero f g h = refl
-table-same {A} (suc n) f g h =
-    ap (λ (l : List A). l ++ (f n ∷ [])) (table-same n f g (λ i l. h i (omega arith)))
-    ∙ ap (λ (x : A). table n g ++ (x ∷ [])) (h n (omega arith))
-
--- A number put behind those of a table.
-table-behind : (n : ℕ) (f : ℕ → ℕ) (k : ℕ) → table (n + 1) (upd f n k) ≡ table n f ++ (k ∷ [])
-table-behind n f k =
-    rw (add-one n, upd-same f n k)
-    (ap (λ (l : List ℕ). l ++ (k ∷ []))
-    (table-same n (upd f n k) f (λ i h. upd-other f n k i (λ e. absurd (omega arith)))))
-
 -- A list with an element stored, read through a function, is the function of its elements, changed at that place.
 seen-set :
     {A : Type 0} (g : ℕ → A) (l : List ℕ) (k x : ℕ) → k < length l
@@ -297,7 +284,9 @@ module _ (os before : List Op) (addr : ℕ → ℕ) (w : Working) where
         listed = seen-set (λ x. not (eqb x 0)) (w .dirty) k 1 (rw (R .dirty) h) i;
         wrote = unseen-set (λ x. eqb x 2) (w .dirty) k 1 (rw (R .dirty) h) (rw e) i;
         curr = seen-set (λ x. x) (w .curr) k b (rw (R .curr) h) i;
-        order = table-behind (w .numblks) addr k i;
+        order =
+            table-more (w .numblks) addr (upd addr (w .numblks) k) k
+            (λ i h. sym (upd-other addr (w .numblks) k i (λ e. omega arith))) (upd-same addr (w .numblks) k) i;
         used = w .dirtycnt;
       }
 

@@ -5,7 +5,7 @@
 -- word of that block at that place. A move reads before it uses the word taken, so the word taken before an update says
 -- nothing. Every word that a plan's moves name is below B times S, so its block is below B. A first write is one of a
 -- block that is not among those written before, so there are as many as an update writes different blocks.
-use Prim.Native.Nat.{ℕ, zero, suc, _+_, _*_, _/_, _%_, _≤_, _<_}
+use Prim.Native.Nat.{ℕ, suc, _+_, _*_, _/_, _%_, _≤_, _<_}
 use mathlib.Core.Path.{_≡_, refl, sym, _∙_, fun-ext}
 use mathlib.Core.Logic.{_≢_}
 use mathlib.Core.Bool.{Bool, true, false, cond, _||_, or-true, or-false, or-assoc}
@@ -29,6 +29,7 @@ use Rattle.format.specs.declared.Move.{Move}
 use Rattle.format.specs.Plan.{Plan, isIn, including, named, written, writtenAfter}
 use Rattle.format.specs.Faults.{someFrom}
 use Rattle.format.specs.Stored.{table}
+use Rattle.format.proofs.Tables.{table-same}
 use Rattle.format.specs.Sound.{Sound}
 use Rattle.model.specs.declared.Stage.{Stage}
 use Rattle.model.specs.Moves.{read, write}
@@ -334,12 +335,6 @@ unfolding written
 room-fits {plan} ok u =
     omega (arith, ok .few-blocks u, first-writes plan (getD (plan .updates) u []) [] (λ _. false) (λ _. refl))
 
--- Two tables with equal values are equal.
-pub same-table :
-    {A : Type 0} (n : ℕ) (f g : ℕ → A) → ((i : ℕ) → i < n → f i ≡ g i) → table n f ≡ table n g
-same-table zero f g h = refl
-same-table (suc n) f g h = rw (same-table n f g (λ i l. h i (omega arith)), h n (omega arith))
-
 -- A block whose words are those of the memory has the block's content there.
 pub content-of :
     (plan : Plan) (words : List ℕ) (b : ℕ) → b < plan .sizes .blocks → (f : ℕ → ℕ)
@@ -347,5 +342,5 @@ pub content-of :
     → table (plan .sizes .words) f ≡ blockIn (plan .sizes .words) words b
 unfolding blocksOf
 content-of plan words b h f e =
-    same-table (plan .sizes .words) f (λ i. getD words (b * plan .sizes .words + i) 0)
+    table-same (plan .sizes .words) f (λ i. getD words (b * plan .sizes .words + i) 0)
     (λ i l. e i l ∙ rw (lt-ltb b (plan .sizes .blocks) h, lt-ltb i (plan .sizes .words) l))

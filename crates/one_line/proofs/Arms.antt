@@ -22,7 +22,8 @@ use Rattle.format.specs.Faults.{isUnknown, stands, laidOut, lacksJobs, lacksBlo
 use Rattle.format.specs.Stored.{Arrays, draftOf, table, updateAt}
 use Rattle.line.specs.declared.LineRead.{LineRead}
 use Rattle.line.specs.Steps.{LineStep, LineDone, Standing}
-use Rattle.line.proofs.Tables.{length-table, lacks-jobs}
+use Rattle.format.proofs.Tables.{length-table}
+use Rattle.line.proofs.Tables.{lacks-jobs}
 
 -- The kind is the one that was met.
 pub at-kind : (k met : Kind) (s : ℕ) (fs : List (List ℕ)) (p : Progress) (a a′ : Arrays) (r : LineRead) → k ≡ met

@@ -1,6 +1,6 @@
 -- `move_stands` meets its contract, by what `update_stands` ensures. Assumes nothing.
 use borrow.Author.Needs.{needs}
-use Rattle.line.proofs.Tables.{length-table}
+use Rattle.format.proofs.Tables.{length-table}
 use Rattle.kinds.proofs.move_stands.Statement.{statement}
 use Rattle.kinds.proofs.move_stands.Tie as tie
 
