@@ -186,8 +186,9 @@ module _
     decided-announced : (q w : ℕ) → s .sh .stat q ≡ decided w → announced (phase (s .job q)) ≡ true
     decided-announced q w e =
         let x = epochs .whole .one q w e in
-        rw (x .1) (cards .whole .named-announced (s .sh .v .count % plan .sizes .cards) (epochs .whole .named (x .0))
-        .1)
+        let chief = cards .whole .named-announced (s .sh .v .count % plan .sizes .cards) (epochs .whole .named (x .0))
+        in
+        rw (x .1) (chief .1)
 
     -- Where no call is decided and uncommitted, no status is a job's number.
     pub none-decided : ((c : ℕ) → isOpen h c ≡ false) → (q w : ℕ) → s .sh .stat q ≢ decided w

@@ -777,18 +777,18 @@ module _ (plan : Plan) (acc : Accepted (layout plan)) (sh : Shared) (job : ℕ �
       → (job p .ver ≡ v → v .flag ≡ true → FreshHolds P v ann stat (job p) (kind pl))
       → PhaseHolds P v ann stat H p (phaseAt (second (job p)) pl) → Good (item plan sh p pl (job p))
   unfolding item
-  items Place.Idle e c fl e1 fk part = calm _ refl (rw e tt)
-  items Place.A1 e c fl e1 fk part = stay refl refl refl refl (rw e) tt
-  items Place.A2 e c fl e1 fk part =
+  items Place.Idle e c fl guard fk part = calm _ refl (rw e tt)
+  items Place.A1 e c fl guard fk part = stay refl refl refl refl (rw e) tt
+  items Place.A2 e c fl guard fk part =
       means p (negsuc 0) undecided _ false (undecided-means (plan .sizes .jobs))
       (arms (goto Place.A4 (withRound 0 (job p))) (rw e) part refl tt)
-  items Place.A4 e c fl e1 fk part =
+  items Place.A4 e c fl guard fk part =
       test Good _ _ _ (λ _. turns _ (rw e) (look-parts (second (job p)) part .1) tt)
       (λ _. turns _ (rw e) (look-parts (second (job p)) part .0) tt)
-  items Place.A7 e c fl e1 fk part =
+  items Place.A7 e c fl guard fk part =
       test Good _ _ _ (λ _. turns _ (rw e) (loop-parts (second (job p)) part) tt)
       (λ _. test Good _ _ _ (λ _. calm _ (rw e) tt) (λ _. calm _ (rw e) tt))
-  items Place.A10 e c fl e1 fk part =
+  items Place.A10 e c fl guard fk part =
       quietly _ refl refl refl refl (rw e) part
       (λ _ ev nx k lo f t r n.
       let here : ann ((job p .ver .count + 1) % P .cards) ≡ k = finds k lo f ev t in
@@ -799,12 +799,12 @@ module _ (plan : Plan) (acc : Accepted (layout plan)) (sh : Shared) (job : ℕ �
             (λ z. let l = C .whole .in-plan k (C .whole .announced-active k lo) in omega arith),
       )
       in
-      let unfinished : not (same (sh .stat (ann ((job p .ver .count + 1) % P .cards))) (pos (plan .sizes .jobs))) ≡
-      true =
+      let unfinished :
+      not (same (sh .stat (ann ((job p .ver .count + 1) % P .cards))) (pos (plan .sizes .jobs))) ≡ true =
       rw (here, ← finished-is (plan .sizes .jobs) (sh .stat k), f)
       in
       absurd (clash _ (search both) nx))
-  items Place.A12 e c fl e1 fk part =
+  items Place.A12 e c fl guard fk part =
       test Good _ _ _
       (λ t.
       let ev : job p .ver ≡ v = same-version v (job p .ver) (search) in
@@ -817,22 +817,22 @@ module _ (plan : Plan) (acc : Accepted (layout plan)) (sh : Shared) (job : ℕ �
         kept = advances (job p .next) ev (rw e) refl (fk ev) (goto Place.A7 (job p)) (rw e) part tt;
       }))
       (λ _. calm _ (rw e) tt)
-  items Place.A14 e c fl e1 fk part =
+  items Place.A14 e c fl guard fk part =
       test Good _ _ _
-      (λ t. announces e1 p (goto Place.A4 (withRound 1 (job p))) tt (rw t at part) refl)
-      (λ t. again e1 p (goto Place.A15 (job p)) tt (rw t at c) (λ _. rw (e, t)) tt)
-  items Place.A15 e c fl e1 fk part =
-      again e1 (plan .sizes .jobs) (goto Place.Idle (job p)) tt c (λ lo. absurd (false≢true lo)) tt
-  items Place.H16 e c fl e1 fk part = calm _ (rw e) tt
-  items Place.H17 e c fl e1 fk part =
+      (λ t. announces guard p (goto Place.A4 (withRound 1 (job p))) tt (rw t at part) refl)
+      (λ t. again guard p (goto Place.A15 (job p)) tt (rw t at c) (λ _. rw (e, t)) tt)
+  items Place.A15 e c fl guard fk part =
+      again guard (plan .sizes .jobs) (goto Place.Idle (job p)) tt c (λ lo. absurd (false≢true lo)) tt
+  items Place.H16 e c fl guard fk part = calm _ (rw e) tt
+  items Place.H17 e c fl guard fk part =
       test Good _ _ _ (λ _. calm _ (rw e) tt)
       (λ _. test Good _ _ _ (λ _. calm _ (rw e) tt) (λ _. calm _ (rw e) tt))
-  items Place.H21 e c fl e1 fk part =
+  items Place.H21 e c fl guard fk part =
       begin-elim (λ a. Good (quiet (goto a (taking (sh .trans (job p .hid)) (job p)))))
       (getD (plan .updates) (sh .trans (job p .hid)) []) (calm _ (rw e) tt) (calm _ (rw e) tt)
-  items (Place.Move st) e c fl e1 fk part = stages st e
-  items Place.H22 e c fl e1 fk part = stay refl refl refl refl (rw e) tt
-  items Place.H25 e c fl e1 fk part =
+  items (Place.Move st) e c fl guard fk part = stages st e
+  items Place.H22 e c fl guard fk part = stay refl refl refl refl (rw e) tt
+  items Place.H25 e c fl guard fk part =
       test Good _ _ _
       (λ t.
       let ev : job p .ver ≡ v = same-version v (job p .ver) (search (and-l, and-r)) in
@@ -844,12 +844,12 @@ module _ (plan : Plan) (acc : Accepted (layout plan)) (sh : Shared) (job : ℕ �
       (undecided-is (plan .sizes .jobs) (sh .stat (job p .hid)) ∙ unset)
       (rw e) tt))
       (λ _. calm _ (rw e) tt)
-  items Place.H32 e c fl e1 fk part = test Good _ _ _ (λ _. calm _ (rw e) tt) (λ _. calm _ (rw e) tt)
-  items Place.H34 e c fl e1 fk part = test Good _ _ _ (λ _. calm _ (rw e) tt) (λ _. calm _ (rw e) tt)
-  items Place.H36 e c fl e1 fk part = test Good _ _ _ (λ _. calm _ (rw e) tt) (λ _. calm _ (rw e) tt)
-  items Place.H37 e c fl e1 fk part = test Good _ _ _ (λ _. calm _ (rw e) tt) (λ _. calm _ (rw e) tt)
-  items Place.H38 e c fl e1 fk part = calm _ (rw e) tt
-  items Place.H41 e c fl e1 fk part =
+  items Place.H32 e c fl guard fk part = test Good _ _ _ (λ _. calm _ (rw e) tt) (λ _. calm _ (rw e) tt)
+  items Place.H34 e c fl guard fk part = test Good _ _ _ (λ _. calm _ (rw e) tt) (λ _. calm _ (rw e) tt)
+  items Place.H36 e c fl guard fk part = test Good _ _ _ (λ _. calm _ (rw e) tt) (λ _. calm _ (rw e) tt)
+  items Place.H37 e c fl guard fk part = test Good _ _ _ (λ _. calm _ (rw e) tt) (λ _. calm _ (rw e) tt)
+  items Place.H38 e c fl guard fk part = calm _ (rw e) tt
+  items Place.H41 e c fl guard fk part =
       test Good _ _ _
       (λ _.
       store-elim
@@ -859,7 +859,7 @@ module _ (plan : Plan) (acc : Accepted (layout plan)) (sh : Shared) (job : ℕ �
       _ (stay refl refl refl refl (rw e) tt) (stay refl refl refl refl (rw e) tt))
       (λ _.
       store-elim (λ a. Good (quiet (goto a (nextBlock (job p))))) _ (calm _ (rw e) tt) (calm _ (rw e) tt))
-  items Place.H42 e c fl e1 fk part =
+  items Place.H42 e c fl guard fk part =
       test Good _ _ _
       (λ t.
       let ev : job p .ver ≡ v = same-version v (job p .ver) (search (and-l, and-r)) in
@@ -879,7 +879,7 @@ module _ (plan : Plan) (acc : Accepted (layout plan)) (sh : Shared) (job : ℕ �
       (after plan p (item plan sh p (job p .place) (job p)) s .job)
       (tally plan (s .sh) p (item plan sh p (job p .place) (job p) .store) H)
   bypass-kept =
-      items (job p .place) refl (C .each p) (D .each p .flag) (D .each p .e1) (D .each p .fresh) (I .parts p) .kept
+      items (job p .place) refl (C .each p) (D .each p .flag) (D .each p .guard) (D .each p .fresh) (I .parts p) .kept
 
 -- An accepted call of an idle job keeps the layer: the new call has not committed.
 pub bypass-called :

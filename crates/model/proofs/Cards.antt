@@ -230,16 +230,16 @@ module _ (P : Layout) where
       go (inr h) = K .below (u .here) l (h .1) .1 f
 
   -- Every clause of one job in the frame.
-  loc-keeps : (B B′ : Board) (k l : ℕ) (ph : Phase) → Keeps B B′ k → OnBoard B k l ph → OnBoard B′ k l ph
-  loc-keeps B B′ k l idle K h = K .own h
-  loc-keeps B B′ k l start K h = K .own h
-  loc-keeps B B′ k l clear K h = K .own h
-  loc-keeps B B′ k l (look r) K h = tt
-  loc-keeps B B′ k l (loop true) K (inl e) = inl e
-  loc-keeps B B′ k l (loop true) K (inr f) = inr (K .own f)
-  loc-keeps B B′ k l (loop false) K h = under-keeps B B′ k l K h
-  loc-keeps B B′ k l (swap true) K h = K .own h
-  loc-keeps B B′ k l (swap false) K h = (under-keeps B B′ k l K (h .0), fin-keeps B B′ k l K (h .0) (h .1))
+  on-board-keeps : (B B′ : Board) (k l : ℕ) (ph : Phase) → Keeps B B′ k → OnBoard B k l ph → OnBoard B′ k l ph
+  on-board-keeps B B′ k l idle K h = K .own h
+  on-board-keeps B B′ k l start K h = K .own h
+  on-board-keeps B B′ k l clear K h = K .own h
+  on-board-keeps B B′ k l (look r) K h = tt
+  on-board-keeps B B′ k l (loop true) K (inl e) = inl e
+  on-board-keeps B B′ k l (loop true) K (inr f) = inr (K .own f)
+  on-board-keeps B B′ k l (loop false) K h = under-keeps B B′ k l K h
+  on-board-keeps B B′ k l (swap true) K h = K .own h
+  on-board-keeps B B′ k l (swap false) K h = (under-keeps B B′ k l K (h .0), fin-keeps B B′ k l K (h .0) (h .1))
 
 -- The state with another status of job q.
 abbrev pub stating : ℕ → Status → State → State
@@ -277,7 +277,7 @@ commits P s q I =
             highest = I .whole .highest;
           };
       each =
-          λ k. loc-keeps P (board s) (board (stating q finished s)) k (s .job k .lid) (phase (s .job k))
+          λ k. on-board-keeps P (board s) (board (stating q finished s)) k (s .job k .lid) (phase (s .job k))
           (record {
             own = stays-true _ k q;
             none = stays-true _ _ q (I .whole .none);
@@ -336,7 +336,7 @@ module _ (plan : Plan) (acc : Accepted (layout plan)) (s : State) (I : CardsHold
           whole = g;
           each =
               λ k. upd-elim (λ j. OnBoard P (board (after plan p o s)) k (j .lid) (phase j)) (s .job) p (o .work) k
-              (λ e. rw e own) (λ n. loc-keeps P (board s) (board (after plan p o s)) k (s .job k .lid)
+              (λ e. rw e own) (λ n. on-board-keeps P (board s) (board (after plan p o s)) k (s .job k .lid)
               (phase (s .job k)) (keeps k n) (I .each k));
         }
       where
@@ -395,7 +395,8 @@ module _ (plan : Plan) (acc : Accepted (layout plan)) (s : State) (I : CardsHold
             go : Dec (k ≡ p) → OnBoard P (board (stating p undecided s)) k (s .job k .lid) (phase (s .job k))
             go (yes z) = rw (z, e) tt
             go (no n) =
-                loc-keeps P (board s) (board (stating p undecided s)) k (s .job k .lid) (phase (s .job k)) (keeps k n)
+                on-board-keeps P (board s) (board (stating p undecided s)) k (s .job k .lid) (phase (s .job k))
+                (keeps k n)
                 (I .each k)
 
     -- A pending job of the running job's card, where the running job is announced, is the running job.
@@ -426,7 +427,7 @@ module _ (plan : Plan) (acc : Accepted (layout plan)) (s : State) (I : CardsHold
                 highest = highest;
               };
           each =
-              λ k. loc-keeps P (board s) (board (announcing (P .card p) p s)) k (s .job k .lid) (phase (s .job k))
+              λ k. on-board-keeps P (board s) (board (announcing (P .card p) p s)) k (s .job k .lid) (phase (s .job k))
               (record { own = λ h. h; none = I .whole .none; on = λ h. h; below = λ _ _ _. (refl, λ h. h) })
               (I .each k);
         }
@@ -623,6 +624,6 @@ cards-called P s p u I pN off =
     each : (k : ℕ) → OnBoard P (board (record { sh = s .sh; job = J })) k (J k .lid) (phase (J k))
     each k =
         upd-elim (λ x. OnBoard P (board (record { sh = s .sh; job = J })) k (x .lid) (phase x)) (s .job) p
-        (called u (s .job p)) k (λ e. rw e idle-fin) (λ _. loc-keeps P (board s)
+        (called u (s .job p)) k (λ e. rw e idle-fin) (λ _. on-board-keeps P (board s)
         (board (record { sh = s .sh; job = J })) k (s .job k .lid) (phase (s .job k))
         (record { own = λ h. h; none = I .whole .none; on = on k; below = λ _ q _. (low q, λ h. h) }) (I .each k))

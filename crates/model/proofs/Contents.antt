@@ -5,11 +5,11 @@
 -- once, in the bank or in a copy list (calm). A job in a run writes to its own copy blocks alone, also where it was
 -- overtaken (Own in OwnAt), so nobody else sees a run; a fresh run of an undecided update has before it what leads to
 -- the update run whole (Live in FreshContents), and its row lists the blocks with their bank numbers. So when H25
--- decides, the decider's copies hold the memory with the update run, and its row names them (settle). From then until V
--- moves on the decider is past H25 under the present V (Past): its row and its reclaimed copies are not touched. Every
--- fresh helper stores that same row, line by line (PutOk): a line that it has passed is stored, so at H42 all of it is,
--- and what is seen through the bank is the memory with the update run. A helper that is still storing after the commit
--- in the same epoch finds new numbers where it would store them, and changes nothing.
+-- decides, the decider's copies hold the memory with the update run, and its row names them (settled). From then until
+-- V moves on the decider is past H25 under the present V (Past): its row and its reclaimed copies are not touched.
+-- Every fresh helper stores that same row, line by line (PutOk): a line that it has passed is stored, so at H42 all of
+-- it is, and what is seen through the bank is the memory with the update run. A helper that is still storing after the
+-- commit in the same epoch finds new numbers where it would store them, and changes nothing.
 --
 -- Assumes the first two layers.
 use Prim.Native.Nat.{ℕ, _<_}

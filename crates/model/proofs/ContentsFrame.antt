@@ -138,30 +138,33 @@ module _ (plan : Plan) (sh sh′ : Scene) (g g′ : Ghost) (J J′ : ℕ → Wor
       }
 
   -- The clauses of a fresh job in the frame.
-  sk-keeps :
+  fresh-contents-keep :
       (k : ℕ) (w : Working) (c : Part) → sh .v .flag ≡ true → SeesContents k w → FreshContents plan sh g J k w c
       → FreshContents plan sh′ g′ J′ k w c
-  sk-keeps k w elsewhere f K h = tt
-  sk-keeps k w (moving st) f K h = λ u. let x = K .live f u in let y = h (x .0) in (x .1 _ (y .0), x .2 (y .1))
-  sk-keeps k w publish f K h = λ u. let x = K .live f u in let y = h (x .0) in (x .1 _ (y .0), x .2 (y .1))
-  sk-keeps k w deciding f K h =
+  fresh-contents-keep k w elsewhere f K h = tt
+  fresh-contents-keep k w (moving st) f K h =
+      λ u. let x = K .live f u in
+      let y = h (x .0) in
+      (x .1 _ (y .0), x .2 (y .1))
+  fresh-contents-keep k w publish f K h = λ u. let x = K .live f u in let y = h (x .0) in (x .1 _ (y .0), x .2 (y .1))
+  fresh-contents-keep k w deciding f K h =
       λ u. let x = K .live f u in
       let y = h (x .0) in
       (x .1 _ (y .0), x .2 (y .1), published-keeps k w (K .row) (y .2))
-  sk-keeps k w first f K h = K .put f _ _ h
-  sk-keeps k w looping f K h = reading-keeps k w f K h
-  sk-keeps k w putting f K h =
+  fresh-contents-keep k w first f K h = K .put f _ _ h
+  fresh-contents-keep k w looping f K h = reading-keeps k w f K h
+  fresh-contents-keep k w putting f K h =
       (reading-keeps k w f K (h .0), line-keeps w (K .other-row f (winnerOf w) (h .0 .ok .past)) (h .1))
-  sk-keeps k w last f K h = rw (K .other-row f (winnerOf w) (h .past) .numblks) (K .put f _ _ h)
+  fresh-contents-keep k w last f K h = rw (K .other-row f (winnerOf w) (h .past) .numblks) (K .put f _ _ h)
 
   -- Every clause of one job in the frame.
-  pub eloc-keeps :
+  pub job-keeps :
       (k : ℕ) (w : Working) → SeesContents k w → JobContents plan sh g J k w → JobContents plan sh′ g′ J′ k w
-  eloc-keeps k w K E =
+  job-keeps k w K E =
       record {
         roomy = E .roomy;
         own = subst (λ a. OwnAt plan a w (part (w .place))) (sym (K .row .addrlist)) (E .own);
-        fresh = λ e f. sk-keeps k w (part (w .place)) (rw ev at f) K (E .fresh (e ∙ ev) (rw ev at f));
+        fresh = λ e f. fresh-contents-keep k w (part (w .place)) (rw ev at f) K (E .fresh (e ∙ ev) (rw ev at f));
       }
 
 module _ (plan : Plan) (s : State) (D : EpochsHold (layout plan) s) (g : Ghost) (E : ContentsHold plan s g) (p : ℕ)
@@ -188,8 +191,8 @@ module _ (plan : Plan) (s : State) (D : EpochsHold (layout plan) s) (g : Ghost) 
     module _ (A : ℕ → ℕ) (S : ℕ → Status) (T : ℕ → ℕ) (j : Working) (cp : j .copy ≡ job p .copy)
         (pp : Past v (job p) → Past v j)
         (hs : v .flag ≡ true → A (v .count % P .cards) ≡ h) (ss : v .flag ≡ true → S h ≡ stat h)
-        (ts : v .flag ≡ true → T h ≡ trans h) (dd : (q w : ℕ) → S q ≡ decided w → (stat q ≡ decided w) ×
-        (T q ≡ trans q))
+        (ts : v .flag ≡ true → T h ≡ trans h)
+        (dd : (q w : ℕ) → S q ≡ decided w → (stat q ≡ decided w) × (T q ≡ trans q))
         (du : (q w : ℕ) → stat q ≡ decided w → S q ≡ decided w) where
       -- The scene after them.
       abbrev sh₁ : Scene
@@ -236,7 +239,7 @@ module _ (plan : Plan) (s : State) (D : EpochsHold (layout plan) s) (g : Ghost) 
                 };
             each =
                 λ k. upd-elim (λ x. JobContents plan sh₁ g (upd job p j) k x) job p j k (λ e. rw e own)
-                (λ n. eloc-keeps plan (s .sh) sh₁ g g job (upd job p j) refl k (job k)
+                (λ n. job-keeps plan (s .sh) sh₁ g g job (upd job p j) refl k (job k)
                 (record {
                   live = λ f u. plain-live f u k (job k);
                   row = rows-same refl refl refl refl k;
@@ -329,7 +332,7 @@ module _ (plan : Plan) (s : State) (D : EpochsHold (layout plan) s) (g : Ghost) 
                   };
               each =
                   λ k. upd-elim (λ x. JobContents plan sh₂ g (upd job p j) k x) job p j k (λ e. rw e own)
-                  (λ n. eloc-keeps plan (s .sh) sh₂ g g job (upd job p j) refl k (job k)
+                  (λ n. job-keeps plan (s .sh) sh₂ g g job (upd job p j) refl k (job k)
                   (record {
                     live = λ f u. (u, row-live k n (job k) .0, row-live k n (job k) .1);
                     row = same k n;
@@ -365,7 +368,7 @@ module _ (plan : Plan) (s : State) (D : EpochsHold (layout plan) s) (g : Ghost) 
               whole = record { calm = calm; settled = settled };
               each =
                   λ k. upd-elim (λ x. JobContents plan sh₃ g (upd job p j) k x) job p j k (λ e. rw e own)
-                  (λ n. eloc-keeps plan (s .sh) sh₃ g g job (upd job p j) refl k (job k)
+                  (λ n. job-keeps plan (s .sh) sh₃ g g job (upd job p j) refl k (job k)
                   (record {
                     live = λ f u. (u, λ os L. live-other P (stock-now u) k L p n i hi y, λ o. o);
                     row = rows-same refl refl refl refl k;
@@ -521,7 +524,7 @@ module _ (plan : Plan) (s : State) (D : EpochsHold (layout plan) s) (g : Ghost) 
                 whole = record { calm = λ nd. calm nd (K .now); settled = settled };
                 each =
                     λ k. upd-elim (λ x. JobContents plan sh₄ g₄ (upd job p j) k x) job p j k (λ e. rw e own)
-                    (λ m. eloc-keeps plan (s .sh) sh₄ g g₄ job (upd job p j) refl k (job k)
+                    (λ m. job-keeps plan (s .sh) sh₄ g g₄ job (upd job p j) refl k (job k)
                     (record {
                       live = λ _ u. absurd (not-undecided u);
                       row = rows-same refl refl refl refl k;
@@ -626,7 +629,7 @@ module _ (plan : Plan) (s : State) (D : EpochsHold (layout plan) s) (g : Ghost) 
                   };
               each =
                   λ k. upd-elim (λ x. JobContents plan sh₅ g₅ (upd job p j) k x) job p j k (λ e. rw e own)
-                  (λ m. eloc-keeps plan (s .sh) sh₅ g g₅ job (upd job p j) refl k (job k)
+                  (λ m. job-keeps plan (s .sh) sh₅ g g₅ job (upd job p j) refl k (job k)
                   (record {
                     live = λ _ u. absurd (false≢true (sym (ap isUndecided fin-now) ∙ u));
                     row = rows-same refl refl refl refl k;
@@ -700,7 +703,7 @@ module _ (plan : Plan) (s : State) (D : EpochsHold (layout plan) s) (g : Ghost) 
             whole = record { calm = λ n. absurd (n h p now₆); settled = settled };
             each =
                 λ k. upd-elim (λ x. JobContents plan sh₆ g₆ (upd job p j) k x) job p j k (λ e. rw e own)
-                (λ m. eloc-keeps plan (s .sh) sh₆ g g₆ job (upd job p j) refl k (job k)
+                (λ m. job-keeps plan (s .sh) sh₆ g g₆ job (upd job p j) refl k (job k)
                 (record {
                   live = λ _ z. absurd (false≢true (sym (ap isUndecided now₆) ∙ z));
                   row = rows-same refl refl refl refl k;

@@ -359,8 +359,8 @@ module _ (plan : Plan) (ok : Sound plan) (sh : Shared) (job : ℕ → Working)
   -- To a place outside of runs and rows: no marks.
   module _ (sh′ : Scene) (g′ : Ghost) (J′ : ℕ → Working) (w : Working) (r : Roomy w) (c : Clear w) where
     -- Its clauses.
-    loc-plain : part (w .place) ≡ elsewhere → JobContents plan sh′ g′ J′ p w
-    loc-plain e = record { roomy = r; own = rw e c; fresh = λ _ _. rw e tt }
+    plain-contents : part (w .place) ≡ elsewhere → JobContents plan sh′ g′ J′ p w
+    plain-contents e = record { roomy = r; own = rw e c; fresh = λ _ _. rw e tt }
 
   -- The same, nothing stored.
   rests :
@@ -368,7 +368,7 @@ module _ (plan : Plan) (ok : Sound plan) (sh : Shared) (job : ℕ → Working)
       → w .curr ≡ job p .curr → Clear (job p) → (Past v (job p) → Past v w) → Good (quiet w)
   rests w e cp d cu c pp =
       still w cp pp
-      (loc-plain (s .sh) g (upd job p w) w (roomy-as w d cu) (subst (λ l. (b : ℕ) → getD l b 0 ≡ 0) (sym d) c) e)
+      (plain-contents (s .sh) g (upd job p w) w (roomy-as w d cu) (subst (λ l. (b : ℕ) → getD l b 0 ≡ 0) (sym d) c) e)
 
   -- The same, the marks cleared.
   clears :
@@ -376,7 +376,7 @@ module _ (plan : Plan) (ok : Sound plan) (sh : Shared) (job : ℕ → Working)
       → w .curr ≡ job p .curr → (Past v (job p) → Past v w) → Good (quiet w)
   clears w e cp d cu pp =
       still w cp pp
-      (loc-plain (s .sh) g (upd job p w) w
+      (plain-contents (s .sh) g (upd job p w) w
       (roomy-same (cleared (job p)) w d cu (roomy-cleared (job p) (E .each p .roomy)))
       (subst (λ l. (b : ℕ) → getD l b 0 ≡ 0) (sym d) (clear-cleared (job p)))
       e)
@@ -813,7 +813,7 @@ module _ (plan : Plan) (ok : Sound plan) (sh : Shared) (job : ℕ → Working)
         means (job p .hid) x (decided p) w true y
         (let l : h < P .jobs = chief-small in let m = ok .jobs in rw eq (omega arith), proper)
         (keeps-decide plan s D g E p (job p .hid) eq u p<N (l .0) (l .1) (l .2) w (rc (l .1)) pw
-        (loc-plain (withCells (sh .ann) (upd stat (job p .hid) (decided p)) (sh .trans) (s .sh))
+        (plain-contents (withCells (sh .ann) (upd stat (job p .hid) (decided p)) (sh .trans) (s .sh))
         (record { mem = g .mem; done = λ _. false })
         (upd job p w)
         w
@@ -890,6 +890,19 @@ module _ (plan : Plan) (ok : Sound plan) (sh : Shared) (job : ℕ → Working)
         inside = rw (ew, ej) (K .inside);
         count = rw (ew, en) (K .count);
       }
+
+  -- H36 and H37: on to the next place at the same line of the row.
+  on-row :
+      (a : Place) → part a ≡ looping → isActive a ≡ true → PastKind (kind a) → Clear (job p)
+      → (job p .ver ≡ v → v .flag ≡ true → Reading plan (s .sh) g job (job p)) → Good (quiet (goto a (job p)))
+  on-row a e up k c K =
+      still (goto a (job p)) refl (past-on (goto a (job p)) refl up k)
+      (record {
+        roomy = roomy-as (goto a (job p)) refl refl;
+        own = rw e c;
+        fresh =
+            λ z f. rw e (reads-on (goto a (job p)) refl refl refl (past-on (goto a (job p)) refl up k) (K z f));
+      })
 
   -- After H41: at the next line of the row, or at H42 behind the last.
   next-line :
@@ -999,47 +1012,49 @@ module _ (plan : Plan) (ok : Sound plan) (sh : Shared) (job : ℕ → Working)
       → (job p .ver ≡ v → v .flag ≡ true → FreshContents plan (s .sh) g job p (job p) (part pl))
       → Good (item plan sh p pl (job p))
   unfolding item
-  items Place.Idle e c fl e1 fk own sk =
+  items Place.Idle e c fl guard fk own sk =
       still (job p) refl (λ q. q) (record { roomy = E .each p .roomy; own = rw e own; fresh = λ _ _. rw e tt })
-  items Place.A1 e c fl e1 fk own sk =
-      keeps-A1 (rw e) c _ _ refl (λ q. absurd (rw e at (q .past))) (loc-plain _ _ _ _ (roomy-as _ refl refl) own refl)
-  items Place.A2 e c fl e1 fk own sk =
-      keeps-A2 (rw e) c _ refl (λ q. absurd (rw e at (q .past))) (loc-plain _ _ _ _ (roomy-as _ refl refl) own refl)
-  items Place.A4 e c fl e1 fk own sk =
+  items Place.A1 e c fl guard fk own sk =
+      keeps-A1 (rw e) c _ _ refl (λ q. absurd (rw e at (q .past)))
+      (plain-contents _ _ _ _ (roomy-as _ refl refl) own refl)
+  items Place.A2 e c fl guard fk own sk =
+      keeps-A2 (rw e) c _ refl (λ q. absurd (rw e at (q .past)))
+      (plain-contents _ _ _ _ (roomy-as _ refl refl) own refl)
+  items Place.A4 e c fl guard fk own sk =
       test Good _ _ _ (λ _. rests _ refl refl refl refl own (λ q. absurd (rw e at (q .past))))
       (λ _. rests _ refl refl refl refl own (λ q. absurd (rw e at (q .past))))
-  items Place.A7 e c fl e1 fk own sk =
+  items Place.A7 e c fl guard fk own sk =
       test Good _ _ _ (λ _. rests _ refl refl refl refl own (λ q. absurd (rw e at (q .past))))
       (λ _. test Good _ _ _ (λ _. rests _ refl refl refl refl own (λ q. absurd (rw e at (q .past))))
       (λ _. rests _ refl refl refl refl own (λ q. absurd (rw e at (q .past)))))
-  items Place.A10 e c fl e1 fk own sk = rests _ refl refl refl refl own (past-on _ refl refl tt)
-  items Place.A12 e c fl e1 fk own sk =
+  items Place.A10 e c fl guard fk own sk = rests _ refl refl refl refl own (past-on _ refl refl tt)
+  items Place.A12 e c fl guard fk own sk =
       test Good _ _ _ (λ t. let ev : job p .ver ≡ v = same-version v (job p .ver) (search) in
       record {
         kept =
             keeps-turn plan s D g E p (record { count = job p .ver .count + 1; flag = job p .next })
             (goto Place.A7 (job p)) (ap (λ (x : Version). x .count + 1) (sym ev)) refl
-            (loc-plain _ _ _ _ (roomy-as _ refl refl) own refl) (fk ev);
+            (plain-contents _ _ _ _ (roomy-as _ refl refl) own refl) (fk ev);
         fits = tt;
       }) (λ t. rests _ refl refl refl refl own (λ q. absurd (stale v (job p .ver) (search) (q .fresh))))
-  items Place.A14 e c fl e1 fk own sk =
+  items Place.A14 e c fl guard fk own sk =
       test Good _ _ _
-      (λ t. keeps-announcement e1 p _ refl (λ q. absurd (rw e at (q .past)))
-      (loc-plain _ _ _ _ (roomy-as _ refl refl) own refl))
-      (λ t. keeps-announcement e1 p _ refl (λ q. absurd (rw e at (q .past)))
-      (loc-plain _ _ _ _ (roomy-as _ refl refl) own refl))
-  items Place.A15 e c fl e1 fk own sk =
-      keeps-announcement e1 _ _ refl (λ q. absurd (rw e at (q .past)))
-      (loc-plain _ _ _ _ (roomy-as _ refl refl) own refl)
-  items Place.H16 e c fl e1 fk own sk = rests _ refl refl refl refl own (λ q. absurd (rw e at (q .past)))
-  items Place.H17 e c fl e1 fk own sk =
+      (λ t. keeps-announcement guard p _ refl (λ q. absurd (rw e at (q .past)))
+      (plain-contents _ _ _ _ (roomy-as _ refl refl) own refl))
+      (λ t. keeps-announcement guard p _ refl (λ q. absurd (rw e at (q .past)))
+      (plain-contents _ _ _ _ (roomy-as _ refl refl) own refl))
+  items Place.A15 e c fl guard fk own sk =
+      keeps-announcement guard _ _ refl (λ q. absurd (rw e at (q .past)))
+      (plain-contents _ _ _ _ (roomy-as _ refl refl) own refl)
+  items Place.H16 e c fl guard fk own sk = rests _ refl refl refl refl own (λ q. absurd (rw e at (q .past)))
+  items Place.H17 e c fl guard fk own sk =
       test Good _ _ _ (λ _. rests _ refl refl refl refl own (λ q. absurd (rw e at (q .past))))
       (λ _. test Good _ _ _ (λ _. rests _ refl refl refl refl own (λ q. absurd (rw e at (q .past))))
       (λ _. rests _ refl refl refl refl own (λ q. absurd (rw e at (q .past)))))
-  items Place.H21 e c fl e1 fk own sk = keeps-H21 (λ q. rw e at (q .past)) own fk
-  items (Place.Move st) e c fl e1 fk own sk = stages (λ q. rw e at (q .past)) st (own .0) (own .1) sk
-  items Place.H22 e c fl e1 fk own sk = keeps-H22 (λ q. rw e at (q .past)) sk
-  items Place.H25 e c fl e1 fk own sk =
+  items Place.H21 e c fl guard fk own sk = keeps-H21 (λ q. rw e at (q .past)) own fk
+  items (Place.Move st) e c fl guard fk own sk = stages (λ q. rw e at (q .past)) st (own .0) (own .1) sk
+  items Place.H22 e c fl guard fk own sk = keeps-H22 (λ q. rw e at (q .past)) sk
+  items Place.H25 e c fl guard fk own sk =
       test Good _ _ _ (λ t. let ev : job p .ver ≡ v = same-version v (job p .ver) (search (and-l, and-r)) in
       let f : v .flag ≡ true = sym (ap (λ (x : Version). x .flag) ev) ∙ fl in
       let u : same (sh .stat (job p .hid)) (negsuc 0) ≡ true = search (and-l, and-r) in
@@ -1047,12 +1062,12 @@ module _ (plan : Plan) (ok : Sound plan) (sh : Shared) (job : ℕ → Working)
       (record { up = refl; fresh = ev; past = tt })
       (search) refl reclaims-copies decided-by-p tt)
       (λ _. clears _ refl (search) (search) refl (λ q. absurd (rw e at (q .past))))
-  items Place.H32 e c fl e1 fk own sk =
+  items Place.H32 e c fl guard fk own sk =
       test Good _ _ _ (λ _. rests _ refl refl refl refl own (past-on _ refl refl tt))
       (λ t. keeps-H32 _ refl refl (roomy-as _ refl refl) own (past-on _ refl refl tt)
       (λ z f. ap stat (sym (fk z f .0)) ∙ decided-else (plan .sizes .jobs) (sh .stat (job p .hid))
       (search (or-l, or-r)) (search (or-l, or-r))))
-  items Place.H34 e c fl e1 fk own sk =
+  items Place.H34 e c fl guard fk own sk =
       test Good _ _ _ (λ t. still _ refl (past-on _ refl refl tt)
       (record {
         roomy = roomy-as _ refl refl;
@@ -1071,21 +1086,13 @@ module _ (plan : Plan) (ok : Sound plan) (sh : Shared) (job : ℕ → Working)
               count = refl;
             };
       }))
-  items Place.H36 e c fl e1 fk own sk =
+  items Place.H36 e c fl guard fk own sk =
       test Good _ _ _ (λ _. rests _ refl refl refl refl own (past-on _ refl refl tt))
-      (λ _. still _ refl (past-on _ refl refl tt) (record {
-        roomy = roomy-as _ refl refl;
-        own = own;
-        fresh = λ z f. reads-on _ refl refl refl (past-on _ refl refl tt) (sk z f);
-      }))
-  items Place.H37 e c fl e1 fk own sk =
+      (λ _. on-row Place.H37 refl refl tt own sk)
+  items Place.H37 e c fl guard fk own sk =
       test Good _ _ _ (λ _. rests _ refl refl refl refl own (past-on _ refl refl tt))
-      (λ _. still _ refl (past-on _ refl refl tt) (record {
-        roomy = roomy-as _ refl refl;
-        own = own;
-        fresh = λ z f. reads-on _ refl refl refl (past-on _ refl refl tt) (sk z f);
-      }))
-  items Place.H38 e c fl e1 fk own sk =
+      (λ _. on-row Place.H38 refl refl tt own sk)
+  items Place.H38 e c fl guard fk own sk =
       still _ refl (past-on _ refl refl tt) (record {
         roomy = roomy-as _ refl refl;
         own = own;
@@ -1095,12 +1102,12 @@ module _ (plan : Plan) (ok : Sound plan) (sh : Shared) (job : ℕ → Working)
               record { addr = refl; old = refl; new = refl },
             );
       })
-  items Place.H41 e c fl e1 fk own sk =
+  items Place.H41 e c fl guard fk own sk =
       test Good _ _ _ (λ t. let ev : job p .ver ≡ v = same-version v (job p .ver) (search (and-l, and-r)) in
       let f : v .flag ≡ true = sym (ap (λ (x : Version). x .flag) ev) ∙ fl .0 in
       keeps-H41 own f (sk ev f .0) (sk ev f .1))
       (λ t. skips-H41 own sk (λ z. search failed))
-  items Place.H42 e c fl e1 fk own sk =
+  items Place.H42 e c fl guard fk own sk =
       test Good _ _ _ (λ t. let ev : job p .ver ≡ v = same-version v (job p .ver) (search (and-l, and-r)) in
       let f : v .flag ≡ true = sym (ap (λ (x : Version). x .flag) ev) ∙ fl .0 in
       let eq : job p .hid ≡ h = fk ev f .0 in
@@ -1114,13 +1121,13 @@ module _ (plan : Plan) (ok : Sound plan) (sh : Shared) (job : ℕ → Working)
             rw eq (omega arith),
         tt,
       ) (keeps-commit plan s D g E p (winnerOf (job p)) (sh .numblks (winnerOf (job p))) (sk ev f)
-      (job p .hid) eq d refl _ refl (past-on _ refl refl tt) (loc-plain _ _ _ _ (roomy-as _ refl refl) own refl)))
+      (job p .hid) eq d refl _ refl (past-on _ refl refl tt) (plain-contents _ _ _ _ (roomy-as _ refl refl) own refl)))
       (λ _. rests _ refl refl refl refl own (past-on _ refl refl tt))
 
   -- The item that p stands before keeps the layer, and stores inside the arrays.
   pub contents-kept : Good (item plan sh p (job p .place) (job p))
   contents-kept =
-      items (job p .place) refl (C .each p) (D .each p .flag) (D .each p .e1) (D .each p .fresh) (E .each p .own)
+      items (job p .place) refl (C .each p) (D .each p .flag) (D .each p .guard) (D .each p .fresh) (E .each p .own)
       (E .each p .fresh)
 
 -- An accepted call of an idle job.

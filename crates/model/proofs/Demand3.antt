@@ -29,7 +29,8 @@ use Rattle.model.proofs.StockRule.{stock-when-none-open}
 holds-after : (plan : Plan) → Sound plan → (es : List Entry) → Holds plan es (runOf plan es)
 holds-after plan ok es =
     let l : Layers plan es _ _ = always plan ok es .layers in
-    holds-of plan ok es (runOf plan es) (l .memory) (l .counts) (l .cards) (l .epochs) (l .contents) (l .bypass) (l .told)
+    holds-of plan ok es (runOf plan es) (l .memory) (l .counts) (l .cards) (l .epochs) (l .contents) (l .bypass)
+    (l .told)
 
 -- Demand 3.
 pub demand3 :

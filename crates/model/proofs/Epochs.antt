@@ -129,7 +129,7 @@ module _ (P : Layout) where
     pub record InEpoch (k : ℕ) (w : Working) : Type 0 where
       pub old : w .ver .count ≤ v .count
       pub flag : HelpHolds w (kind (w .place))
-      pub e1 : ChiefGuard k (w .lid) (phase w)
+      pub guard : ChiefGuard k (w .lid) (phase w)
       pub fresh : w .ver ≡ v → v .flag ≡ true → FreshHolds w (kind (w .place))
       pub mover : w .ver ≡ v → MoverHolds w (kind (w .place))
 
@@ -169,16 +169,16 @@ module _ (P : Layout) (v : Version) (A A′ : ℕ → ℕ) (S S′ : ℕ → Sta
         → (A′ ((v .count + 1) % P .cards) ≡ j .hid) × (isFinished (S′ (j .hid)) ≡ false)
 
   -- ChiefGuard in the frame.
-  pub e1-keeps :
+  pub guard-keeps :
       (k l : ℕ) (ph : Phase) → (v .flag ≡ true → chief P v A′ S′ ≡ chief P v A S) → ChiefGuard P v A S k l ph
       → ChiefGuard P v A′ S′ k l ph
-  e1-keeps k l idle e h = tt
-  e1-keeps k l start e h = tt
-  e1-keeps k l (look r) e h = tt
-  e1-keeps k l (loop true) e h = tt
-  e1-keeps k l (loop false) e h = λ f c p. h f c (rw (e f) at p) ∙ sym (e f)
-  e1-keeps k l (swap r) e h = λ f c p. h f c (rw (e f) at p)
-  e1-keeps k l clear e h = λ f c p. h f c (rw (e f) at p)
+  guard-keeps k l idle e h = tt
+  guard-keeps k l start e h = tt
+  guard-keeps k l (look r) e h = tt
+  guard-keeps k l (loop true) e h = tt
+  guard-keeps k l (loop false) e h = λ f c p. h f c (rw (e f) at p) ∙ sym (e f)
+  guard-keeps k l (swap r) e h = λ f c p. h f c (rw (e f) at p)
+  guard-keeps k l clear e h = λ f c p. h f c (rw (e f) at p)
 
   -- What is not −1 stays so.
   on-undecided : {a b : Status} → Onward a b → isUndecided a ≡ false → isUndecided b ≡ false
@@ -201,36 +201,36 @@ module _ (P : Layout) (v : Version) (A A′ : ℕ → ℕ) (S S′ : ℕ → Sta
   on-decided finish w h = inr refl
 
   -- FreshHolds in the frame.
-  fk-keeps :
+  fresh-keeps :
       (j : Working) (c : Kind) → chief P v A′ S′ ≡ chief P v A S → Onward (S (chief P v A S)) (S′ (chief P v A S))
       → FreshHolds P v A S j c → FreshHolds P v A′ S′ j c
-  fk-keeps j plain e o h = tt
-  fk-keeps j enter e o h = tt
-  fk-keeps j help e o h = h ∙ sym e
-  fk-keeps j settle e o h = (h .0 ∙ sym e, rw e (on-undecided o (h .1)))
-  fk-keeps j put e o h = (h .0 ∙ sym e, rw e (on-decided o (winnerOf j) (h .1)))
-  fk-keeps j out e o h = rw e (on-finished o h)
-  fk-keeps j swing e o h = rw e (on-finished o h)
+  fresh-keeps j plain e o h = tt
+  fresh-keeps j enter e o h = tt
+  fresh-keeps j help e o h = h ∙ sym e
+  fresh-keeps j settle e o h = (h .0 ∙ sym e, rw e (on-undecided o (h .1)))
+  fresh-keeps j put e o h = (h .0 ∙ sym e, rw e (on-decided o (winnerOf j) (h .1)))
+  fresh-keeps j out e o h = rw e (on-finished o h)
+  fresh-keeps j swing e o h = rw e (on-finished o h)
 
   -- MoverHolds in the frame.
-  wk-keeps :
-      (j : Working) (c : Kind) → Sees j → (v .flag ≡ true → FreshHolds P v A S j c) → MoverHolds P v A S j c →
-      MoverHolds P v A′ S′ j c
-  wk-keeps j plain K f h = tt
-  wk-keeps j enter K f h = tt
-  wk-keeps j help K f h = tt
-  wk-keeps j settle K f h = tt
-  wk-keeps j put K f h = tt
-  wk-keeps j out K f h = tt
-  wk-keeps j swing K f h = λ n. K .w f (h n .0) (h n .1)
+  mover-keeps :
+      (j : Working) (c : Kind) → Sees j → (v .flag ≡ true → FreshHolds P v A S j c) → MoverHolds P v A S j c
+      → MoverHolds P v A′ S′ j c
+  mover-keeps j plain K f h = tt
+  mover-keeps j enter K f h = tt
+  mover-keeps j help K f h = tt
+  mover-keeps j settle K f h = tt
+  mover-keeps j put K f h = tt
+  mover-keeps j out K f h = tt
+  mover-keeps j swing K f h = λ n. K .w f (h n .0) (h n .1)
 
   -- Every clause of one job in the frame.
-  pub dloc-keeps : (k : ℕ) (j : Working) → Sees j → InEpoch P v A S k j → InEpoch P v A′ S′ k j
-  dloc-keeps k j K D =
+  pub epoch-keeps : (k : ℕ) (j : Working) → Sees j → InEpoch P v A S k j → InEpoch P v A′ S′ k j
+  epoch-keeps k j K D =
       record {
         old = D .old;
         flag = D .flag;
-        e1 = e1-keeps k (j .lid) (phase j) (K .ann) (D .e1);
-        fresh = λ e f. fk-keeps j (kind (j .place)) (K .ann f) (K .stat f) (D .fresh e f);
-        mover = λ e. wk-keeps j (kind (j .place)) K (D .fresh e) (D .mover e);
+        guard = guard-keeps k (j .lid) (phase j) (K .ann) (D .guard);
+        fresh = λ e f. fresh-keeps j (kind (j .place)) (K .ann f) (K .stat f) (D .fresh e f);
+        mover = λ e. mover-keeps j (kind (j .place)) K (D .fresh e) (D .mover e);
       }

@@ -114,8 +114,8 @@ use Rattle.model.proofs.Epochs.{
   chief-under,
   Onward,
   Sees,
-  e1-keeps,
-  dloc-keeps,
+  guard-keeps,
+  epoch-keeps,
 }
 
 -- What is N by the test means finished.
@@ -149,8 +149,8 @@ elsewhere a b f h t e = false≢true (rw (eq-eqb a b (sym e), t) at h)
 outside :
     {P : Layout} {v : Version} {A : ℕ → ℕ} {S : ℕ → Status} {k : ℕ} {w : Working} → kind (w .place) ≡ plain
     → w .ver .count ≤ v .count → ChiefGuard P v A S k (w .lid) (phase w) → InEpoch P v A S k w
-outside e le e1 =
-    record { old = le; flag = rw e tt; e1 = e1; fresh = λ _ _. rw e tt; mover = λ _. rw e tt }
+outside e le guard =
+    record { old = le; flag = rw e tt; guard = guard; fresh = λ _ _. rw e tt; mover = λ _. rw e tt }
 
 -- What the layer reads of the shared cells.
 record Reading : Type 0 where
@@ -287,7 +287,7 @@ module _ (plan : Plan) (acc : Accepted (layout plan)) (sh : Shared) (job : ℕ �
       (record {
         old = rw ev (D .each p .old);
         flag = fl;
-        e1 = rw (el, ep) (D .each p .e1);
+        guard = rw (el, ep) (D .each p .guard);
         fresh = fr;
         mover = mv;
       })
@@ -303,7 +303,7 @@ module _ (plan : Plan) (acc : Accepted (layout plan)) (sh : Shared) (job : ℕ �
         each =
             λ k.
             upd-elim (λ x. InEpoch P v A S k x) job p w k (λ e. rw e own)
-            (λ n. dloc-keeps P v ann A stat S k (job k) (K k n) (D .each k));
+            (λ n. epoch-keeps P v ann A stat S k (job k) (K k n) (D .each k));
       }
 
   -- p is at A14 or A15: not at or above the chief on its card, nor any other pending announced job.
@@ -386,7 +386,7 @@ module _ (plan : Plan) (acc : Accepted (layout plan)) (sh : Shared) (job : ℕ �
         stat = λ _. rw (upd-at stat (w .hid) y head (sym q)) o;
         w = λ done. absurd (true≢false (sym (ap isFinished (done f)) ∙ nf));
       })
-      (record { old = rw ev (le-refl _); flag = fl; e1 = e1; fresh = λ _ _. fr; mover = λ _. mv }))
+      (record { old = rw ev (le-refl _); flag = fl; guard = guard; fresh = λ _ _. fr; mover = λ _. mv }))
     where
       S : ℕ → Status
       S = upd stat (w .hid) y
@@ -397,8 +397,8 @@ module _ (plan : Plan) (acc : Accepted (layout plan)) (sh : Shared) (job : ℕ �
           (λ _. D .whole .one r z)
 
       -- ChiefGuard does not read the statuses
-      e1 : ChiefGuard P v ann S p (w .lid) (phase w)
-      e1 = rw (el, ep) (e1-keeps P v ann ann stat S p (job p .lid) (phase (job p)) (λ _. refl) (D .each p .e1))
+      guard : ChiefGuard P v ann S p (w .lid) (phase w)
+      guard = rw (el, ep) (guard-keeps P v ann ann stat S p (job p .lid) (phase (job p)) (λ _. refl) (D .each p .guard))
 
   -- A12: V moves on, with flag b, when the chief is finished; a true flag speaks of a pending job.
   module _ (b : Bool) (done : v .flag ≡ true → stat head ≡ finished)
@@ -412,17 +412,17 @@ module _ (plan : Plan) (acc : Accepted (layout plan)) (sh : Shared) (job : ℕ �
     named-next f z = true≢false (sym (C .whole .none) ∙ rw z at (pending f))
 
     -- ChiefGuard of the new V.
-    e1-next :
+    guard-next :
         (k l : ℕ) (ph : Phase) → phase (job k) ≡ ph → OnBoard P (board s) k l ph → ChiefGuard P moved ann stat k l ph
-    e1-next k l idle e c = tt
-    e1-next k l start e c = tt
-    e1-next k l (look r) e c = tt
-    e1-next k l (loop true) e c = tt
-    e1-next k l (loop false) e c =
+    guard-next k l idle e c = tt
+    guard-next k l start e c = tt
+    guard-next k l (look r) e c = tt
+    guard-next k l (loop true) e c = tt
+    guard-next k l (loop false) e c =
         λ f d pr. above k (ann following) (ap ann d) (named-next f) (pending f) pr l (loop false) e c
-    e1-next k l (swap r) e c =
+    guard-next k l (swap r) e c =
         λ f d pr. above k (ann following) (ap ann d) (named-next f) (pending f) pr l (swap r) e c
-    e1-next k l clear e c =
+    guard-next k l clear e c =
         λ f d pr. above k (ann following) (ap ann d) (named-next f) (pending f) pr l clear e c
 
     -- No job has the new V yet.
@@ -450,22 +450,22 @@ module _ (plan : Plan) (acc : Accepted (layout plan)) (sh : Shared) (job : ℕ �
         own : InEpoch P moved ann stat p w
         own =
             outside ek (omega (arith, le))
-            (rw (el, ep) (e1-next p (job p .lid) (phase (job p)) refl (C .each p)))
+            (rw (el, ep) (guard-next p (job p .lid) (phase (job p)) refl (C .each p)))
 
         other : (k : ℕ) → InEpoch P moved ann stat k (job k)
         other k =
             record {
               old = let o = D .each k .old in omega arith;
               flag = D .each k .flag;
-              e1 = e1-next k (job k .lid) (phase (job k)) refl (C .each k);
+              guard = guard-next k (job k .lid) (phase (job k)) refl (C .each k);
               fresh = λ e. absurd (later (job k .ver) (D .each k .old) e);
               mover = λ e. absurd (later (job k .ver) (D .each k .old) e);
             }
 
   -- A4: lid is the job announced on p's card, in round 0 the chief where ChiefGuard asks.
-  e1-look : (r : Bool) → ChiefGuard P v ann stat p (ann (P .card p)) (loop r)
-  e1-look true = tt
-  e1-look false = λ _ c _. ap ann c
+  guard-look : (r : Bool) → ChiefGuard P v ann stat p (ann (P .card p)) (loop r)
+  guard-look true = tt
+  guard-look false = λ _ c _. ap ann c
 
   -- hid's status is N: a fresh job finds the chief finished.
   finds : same helped (pos (P .jobs)) ≡ true → job p .hid ≡ head → stat head ≡ finished
@@ -569,39 +569,39 @@ module _ (plan : Plan) (acc : Accepted (layout plan)) (sh : Shared) (job : ℕ �
       → (job p .ver ≡ v → v .flag ≡ true → FreshHolds P v ann stat (job p) (kind pl))
       → (job p .ver ≡ v → MoverHolds P v ann stat (job p) (kind pl)) → Good (item plan sh p pl (job p))
   unfolding item
-  items Place.Idle e c fl e1 fr mv = steps refl (D .each p)
-  items Place.A1 e c fl e1 fr mv = steps refl (outside refl (D .each p .old) tt)
-  items Place.A2 e c fl e1 fr mv =
+  items Place.Idle e c fl guard fr mv = steps refl (D .each p)
+  items Place.A1 e c fl guard fr mv = steps refl (outside refl (D .each p .old) tt)
+  items Place.A2 e c fl guard fr mv =
       means p (negsuc 0) undecided _ false (undecided-means (plan .sizes .jobs))
       (arms (rw e) c _ (outside refl (D .each p .old) tt))
-  items Place.A4 e c fl e1 fr mv =
+  items Place.A4 e c fl guard fr mv =
       test Good _ _ _
       (λ t. steps refl (outside refl (D .each p .old) (λ f d _. D .whole .named f (ap ann (sym d) ∙ eqb-true _ _ t))))
-      (λ _. steps refl (outside refl (D .each p .old) (e1-look (second (job p)))))
-  items Place.A7 e c fl e1 fr mv =
+      (λ _. steps refl (outside refl (D .each p .old) (guard-look (second (job p)))))
+  items Place.A7 e c fl guard fr mv =
       test Good _ _ _
       (λ t.
       let away : (not (eqb pointed (P .card p)) || not (v .flag)) ≡ true = search (and-l, and-r) in
       steps refl (outside refl (le-refl _) (λ f d _. elsewhere pointed (P .card p) (v .flag) away f d)))
       (λ _.
       test Good _ _ _
-      (λ t. steps refl (record { old = le-refl _; flag = t; e1 = e1; fresh = λ _ _. tt; mover = λ _. tt }))
+      (λ t. steps refl (record { old = le-refl _; flag = t; guard = guard; fresh = λ _ _. tt; mover = λ _. tt }))
       (λ t.
       steps refl
       (record {
         old = le-refl _;
         flag = tt;
-        e1 = e1;
+        guard = guard;
         fresh = λ _ f. absurd (true≢false (sym f ∙ t));
         mover = λ _. tt;
       })))
-  items Place.A10 e c fl e1 fr mv =
+  items Place.A10 e c fl guard fr mv =
       loops refl (rw e) refl refl tt fr
       (λ z t.
       let found : ℤ = sh .stat (nextHelped plan sh p (job p)) in
       let pending : not (same found (pos (P .jobs))) ≡ true = search (and-l, and-r) in
       (ap (λ x. ann ((x .count + 1) % P .cards)) (sym z), finished-is _ _ ∙ not-true _ pending))
-  items Place.A12 e c fl e1 fr mv =
+  items Place.A12 e c fl guard fr mv =
       test Good _ _ _
       (λ t.
       let ev : job p .ver ≡ v = same-version v (job p .ver) (search) in
@@ -609,38 +609,38 @@ module _ (plan : Plan) (acc : Accepted (layout plan)) (sh : Shared) (job : ℕ �
         kept = turns (job p .next) (fr ev) (λ n. rw (mv ev n .0) (mv ev n .1)) _ refl (rw e) refl ev;
       })
       (λ _. loops refl (rw e) refl refl tt (λ _ _. tt) (λ _. tt))
-  items Place.A14 e c fl e1 fr mv =
+  items Place.A14 e c fl guard fr mv =
       test Good _ _ _
-      (λ _. record { kept = announces e1 shut p _ (outside refl (D .each p .old) tt) })
+      (λ _. record { kept = announces guard shut p _ (outside refl (D .each p .old) tt) })
       (λ _.
       record {
-        kept = announces e1 shut p _ (outside refl (D .each p .old)
-            (λ f d _. e1 f d (chief-under P s C D p R f d)));
+        kept = announces guard shut p _ (outside refl (D .each p .old)
+            (λ f d _. guard f d (chief-under P s C D p R f d)));
       })
     where
       shut : (a : ℕ) → ann (P .card p) ≡ a → a ≢ P .jobs → isFinished (stat a) ≡ false → P .prio a ≤ P .prio p → ⊥
       shut a ea na fa pr = above p a ea na fa pr (job p .lid) (swap (second (job p))) (rw e) c
-  items Place.A15 e c fl e1 fr mv =
+  items Place.A15 e c fl guard fr mv =
       record {
         kept =
-            announces e1 (λ a ea na fa pr. above p a ea na fa pr (job p .lid) clear (rw e) c) _ _
+            announces guard (λ a ea na fa pr. above p a ea na fa pr (job p .lid) clear (rw e) c) _ _
             (outside refl (D .each p .old) tt);
       }
-  items Place.H16 e c fl e1 fr mv =
+  items Place.H16 e c fl guard fr mv =
       loops refl (rw e) refl refl fl (λ z _. ap (λ x. ann (x .count % P .cards)) z) (λ _. tt)
-  items Place.H17 e c fl e1 fr mv =
+  items Place.H17 e c fl guard fr mv =
       test Good _ _ _ (λ t. loops refl (rw e) refl refl tt (λ z f. finds t (fr z f)) (λ _. tt))
       (λ _.
       test Good _ _ _ (λ _. loops refl (rw e) refl refl fl fr (λ _. tt))
       (λ t. loops refl (rw e) refl refl fl (λ z f. passes t (fr z f)) (λ _. tt)))
-  items Place.H21 e c fl e1 fr mv =
+  items Place.H21 e c fl guard fr mv =
       begin-elim (λ a. Good (quiet (goto a (taking (sh .trans (job p .hid)) (job p)))))
       (getD (plan .updates) (sh .trans (job p .hid)) [])
       (loops refl (rw e) refl refl fl fr (λ _. tt))
       (loops refl (rw e) refl refl fl fr (λ _. tt))
-  items (Place.Move st) e c fl e1 fr mv = stages st e fl fr
-  items Place.H22 e c fl e1 fr mv = loops refl (rw e) refl refl fl fr (λ _. tt)
-  items Place.H25 e c fl e1 fr mv =
+  items (Place.Move st) e c fl guard fr mv = stages st e fl fr
+  items Place.H22 e c fl guard fr mv = loops refl (rw e) refl refl fl fr (λ _. tt)
+  items Place.H25 e c fl guard fr mv =
       test Good _ _ _
       (λ t.
       let ev : job p .ver ≡ v = same-version v (job p .ver) (search (and-l, and-r)) in
@@ -648,7 +648,7 @@ module _ (plan : Plan) (acc : Accepted (layout plan)) (sh : Shared) (job : ℕ �
       let f : v .flag ≡ true = sym (ap (λ x. x .flag) ev) ∙ fl in
       decides _ refl (rw e) refl ev f (fr ev f) und)
       (λ t. loops refl (rw e) refl refl fl (λ z f. passes (search failed) (fr z f)) (λ _. tt))
-  items Place.H32 e c fl e1 fr mv =
+  items Place.H32 e c fl guard fr mv =
       test Good _ _ _
       (λ t. loops refl (rw e) refl refl tt (λ z f. settled t (fr z f .0) (fr z f .1)) (λ _. tt))
       (λ t.
@@ -656,19 +656,19 @@ module _ (plan : Plan) (acc : Accepted (layout plan)) (sh : Shared) (job : ℕ �
       loops refl (rw e) refl refl (fl, n)
       (λ z f. (fr z f .0, inl (ap stat (sym (fr z f .0)) ∙ wid-means (P .jobs) _ _ n refl)))
       (λ _. tt))
-  items Place.H34 e c fl e1 fr mv =
+  items Place.H34 e c fl guard fr mv =
       test Good _ _ _ (λ _. loops refl (rw e) refl refl (fl .0, still-widened refl (fl .1)) fr (λ _. tt))
       (λ _. loops refl (rw e) refl refl (fl .0, still-widened refl (fl .1)) fr (λ _. tt))
-  items Place.H36 e c fl e1 fr mv =
+  items Place.H36 e c fl guard fr mv =
       test Good _ _ _
       (λ t. loops refl (rw e) refl refl tt (λ z _. absurd (stale v (job p .ver) (not-true _ t) z)) (λ _. tt))
       (λ _. loops refl (rw e) refl refl (fl .0, still-widened refl (fl .1)) fr (λ _. tt))
-  items Place.H37 e c fl e1 fr mv =
+  items Place.H37 e c fl guard fr mv =
       test Good _ _ _ (λ t. loops refl (rw e) refl refl tt (λ z f. finds t (fr z f .0)) (λ _. tt))
       (λ _. loops refl (rw e) refl refl (fl .0, still-widened refl (fl .1)) fr (λ _. tt))
-  items Place.H38 e c fl e1 fr mv =
+  items Place.H38 e c fl guard fr mv =
       loops refl (rw e) refl refl (fl .0, still-widened refl (fl .1)) fr (λ _. tt)
-  items Place.H41 e c fl e1 fr mv =
+  items Place.H41 e c fl guard fr mv =
       test Good _ _ _
       (λ _.
       store-elim (λ a. Good (doing (Store.Bank (job p .addr) (job p .new)) (goto a (nextBlock (job p))))) _
@@ -678,7 +678,7 @@ module _ (plan : Plan) (acc : Accepted (layout plan)) (sh : Shared) (job : ℕ �
       store-elim (λ a. Good (quiet (goto a (nextBlock (job p))))) _
       (loops refl (rw e) refl refl (fl .0, still-widened refl (fl .1)) fr (λ _. tt))
       (loops refl (rw e) refl refl (fl .0, still-widened refl (fl .1)) fr (λ _. tt)))
-  items Place.H42 e c fl e1 fr mv =
+  items Place.H42 e c fl guard fr mv =
       test Good _ _ _
       (λ t.
       let ev : job p .ver ≡ v = same-version v (job p .ver) (search (and-l, and-r)) in
@@ -694,7 +694,7 @@ module _ (plan : Plan) (acc : Accepted (layout plan)) (sh : Shared) (job : ℕ �
   -- The item that p stands before keeps the layer.
   pub epochs-kept : EpochsHold P (after plan p (item plan sh p (job p .place) (job p)) s)
   epochs-kept =
-      items (job p .place) refl (C .each p) (D .each p .flag) (D .each p .e1) (D .each p .fresh) (D .each p .mover)
+      items (job p .place) refl (C .each p) (D .each p .flag) (D .each p .guard) (D .each p .fresh) (D .each p .mover)
       .kept
 
 -- An accepted call.

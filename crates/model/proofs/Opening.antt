@@ -96,7 +96,7 @@ module _ (plan : Plan) (ok : Sound plan) where
             λ k. record {
               old = rw (o .version, o .taken k) (le-refl 0);
               flag = subst (λ a. HelpHolds P (s .job k) (kind a)) (sym (o .idle k)) tt;
-              e1 =
+              guard =
                   subst
                   (λ a. ChiefGuard P (s .sh .v) (s .sh .ann) (s .sh .stat) k (s .job k .lid)
                   (phaseAt (second (s .job k)) a))
