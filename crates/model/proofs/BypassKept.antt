@@ -636,7 +636,8 @@ module _ (plan : Plan) (acc : Accepted (layout plan)) (sh : Shared) (job : ℕ �
         K : Pending P v ann stat H k
         K = I .pending k lo fk
 
-        -- V's count is less than P before the target, for P before it points at the call's card
+        -- V's count is less than P before the target: the count P before it points at the call's own card, and V at
+        -- another
         ne : H .target k ≢ v .count + P .cards
         ne z =
             n

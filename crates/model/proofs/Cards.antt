@@ -117,18 +117,18 @@ active-phase r Place.H42 = refl
 -- returned, and who is active.
 pub record Board : Type 0 where
   pub ann : ℕ → ℕ
-  pub fin : ℕ → Bool
-  pub low : ℕ → Bool
-  pub on : ℕ → Bool
+  pub finished : ℕ → Bool
+  pub announced : ℕ → Bool
+  pub active : ℕ → Bool
 
 -- The board of a state.
 abbrev pub board : State → Board
 board s =
     record {
       ann = s .sh .ann;
-      fin = λ k. isFinished (s .sh .stat k);
-      low = λ k. announced (phase (s .job k));
-      on = λ k. isActive (s .job k .place);
+      finished = λ k. isFinished (s .sh .stat k);
+      announced = λ k. announced (phase (s .job k));
+      active = λ k. isActive (s .job k .place);
     }
 
 -- What the reader's acceptance gives of the cards and priorities.
@@ -144,8 +144,8 @@ accepted plan ok = record { some-card = ok .some-card; on-card = ok .on-card; ap
 module _ (P : Layout) where
   -- Job p is the active job of highest priority on its card.
   pub record Runs (B : Board) (p : ℕ) : Type 0 where
-    pub up : B .on p ≡ true
-    pub top : (k : ℕ) → B .on k ≡ true → P .card k ≡ P .card p → P .prio k ≤ P .prio p
+    pub up : B .active p ≡ true
+    pub top : (k : ℕ) → B .active k ≡ true → P .card k ≡ P .card p → P .prio k ≤ P .prio p
 
   -- Job q is on job k's card, with a lower priority.
   pub record Below (q k : ℕ) : Type 0 where
@@ -155,34 +155,34 @@ module _ (P : Layout) where
   -- The clauses of the whole board.
   pub record BoardHolds (B : Board) : Type 0 where
     -- active jobs are the plan's, and announced ones are active
-    pub in-plan : (k : ℕ) → B .on k ≡ true → k < P .jobs
-    pub announced-active : (k : ℕ) → B .low k ≡ true → B .on k ≡ true
+    pub in-plan : (k : ℕ) → B .active k ≡ true → k < P .jobs
+    pub announced-active : (k : ℕ) → B .announced k ≡ true → B .active k ≡ true
     -- "Stat[N] is N always"
-    pub none : B .fin (P .jobs) ≡ true
+    pub none : B .finished (P .jobs) ≡ true
     -- an announcement names an announced job of that card
-    pub named-announced : (r : ℕ) → B .ann r ≢ P .jobs → (P .card (B .ann r) ≡ r) × (B .low (B .ann r) ≡ true)
+    pub named-announced : (r : ℕ) → B .ann r ≢ P .jobs → (P .card (B .ann r) ≡ r) × (B .announced (B .ann r) ≡ true)
     -- a pending job stands in its card's announcement
-    pub pending : (k : ℕ) → B .low k ≡ true → B .fin k ≡ false → B .ann (P .card k) ≡ k
+    pub pending : (k : ℕ) → B .announced k ≡ true → B .finished k ≡ false → B .ann (P .card k) ≡ k
     -- no announced job of the card has a higher priority than the one that stands there
     pub highest :
-        (k : ℕ) → B .low k ≡ true → B .ann (P .card k) ≢ P .jobs → P .prio k ≤ P .prio (B .ann (P .card k))
+        (k : ℕ) → B .announced k ≡ true → B .ann (P .card k) ≢ P .jobs → P .prio k ≤ P .prio (B .ann (P .card k))
 
   -- The job l that job k found announced is below it, and no other job below is pending.
   pub record Under (B : Board) (k l : ℕ) : Type 0 where
-    pub here : B .on k ≡ true
-    pub under : (l ≡ P .jobs) ⊎ ((B .low l ≡ true) × Below l k)
-    pub only : (q : ℕ) → Below q k → B .low q ≡ true → B .fin q ≡ false → q ≡ l
+    pub here : B .active k ≡ true
+    pub under : (l ≡ P .jobs) ⊎ ((B .announced l ≡ true) × Below l k)
+    pub only : (q : ℕ) → Below q k → B .announced q ≡ true → B .finished q ≡ false → q ≡ l
 
   -- The clauses of job k, whose lid is l, by its phase.
   abbrev pub OnBoard : Board → ℕ → ℕ → Phase → Type 0
-  OnBoard B k l idle = B .fin k ≡ true
-  OnBoard B k l start = B .fin k ≡ true
-  OnBoard B k l clear = B .fin k ≡ true
+  OnBoard B k l idle = B .finished k ≡ true
+  OnBoard B k l start = B .finished k ≡ true
+  OnBoard B k l clear = B .finished k ≡ true
   OnBoard B k l (look r) = Unit {0}
-  OnBoard B k l (loop true) = (l ≡ k) ⊎ (B .fin k ≡ true)
+  OnBoard B k l (loop true) = (l ≡ k) ⊎ (B .finished k ≡ true)
   OnBoard B k l (loop false) = Under B k l
-  OnBoard B k l (swap true) = B .fin k ≡ true
-  OnBoard B k l (swap false) = Under B k l × (B .fin l ≡ true)
+  OnBoard B k l (swap true) = B .finished k ≡ true
+  OnBoard B k l (swap false) = Under B k l × (B .finished l ≡ true)
 
   -- The first layer.
   pub record CardsHold (s : State) : Type 0 where
@@ -191,17 +191,17 @@ module _ (P : Layout) where
 
   -- The frame: what job k sees when the board changes from B to B′.
   pub record Keeps (B B′ : Board) (k : ℕ) : Type 0 where
-    pub own : B .fin k ≡ true → B′ .fin k ≡ true
-    pub none : B′ .fin (P .jobs) ≡ true
-    pub on : B .on k ≡ true → B′ .on k ≡ true
+    pub own : B .finished k ≡ true → B′ .finished k ≡ true
+    pub none : B′ .finished (P .jobs) ≡ true
+    pub active : B .active k ≡ true → B′ .active k ≡ true
     pub below :
-        B .on k ≡ true → (q : ℕ) → Below q k → (B′ .low q ≡ B .low q) × (B .fin q ≡ true → B′ .fin q ≡ true)
+        B .active k ≡ true → (q : ℕ) → Below q k → (B′ .announced q ≡ B .announced q) × (B .finished q ≡ true → B′ .finished q ≡ true)
 
   -- Where statuses only become N, what is not N was not N.
-  was-pending : (B B′ : Board) (q : ℕ) → (B .fin q ≡ true → B′ .fin q ≡ true) → B′ .fin q ≡ false → B .fin q ≡ false
-  was-pending B B′ q K f = go (B .fin q) refl
+  was-pending : (B B′ : Board) (q : ℕ) → (B .finished q ≡ true → B′ .finished q ≡ true) → B′ .finished q ≡ false → B .finished q ≡ false
+  was-pending B B′ q K f = go (B .finished q) refl
     where
-      go : (x : Bool) → B .fin q ≡ x → B .fin q ≡ false
+      go : (x : Bool) → B .finished q ≡ x → B .finished q ≡ false
       go false e = e
       go true e = absurd (true≢false (sym (K e) ∙ f))
 
@@ -209,23 +209,23 @@ module _ (P : Layout) where
   under-keeps : (B B′ : Board) (k l : ℕ) → Keeps B B′ k → Under B k l → Under B′ k l
   under-keeps B B′ k l K u =
       record {
-        here = K .on (u .here);
+        here = K .active (u .here);
         under = go (u .under);
         only = λ q b lo f. u .only q b (sym (below q b .0) ∙ lo) (was-pending B B′ q (below q b .1) f);
       }
     where
-      below : (q : ℕ) → Below q k → (B′ .low q ≡ B .low q) × (B .fin q ≡ true → B′ .fin q ≡ true)
+      below : (q : ℕ) → Below q k → (B′ .announced q ≡ B .announced q) × (B .finished q ≡ true → B′ .finished q ≡ true)
       below = K .below (u .here)
 
-      go : (l ≡ P .jobs) ⊎ ((B .low l ≡ true) × Below l k) → (l ≡ P .jobs) ⊎ ((B′ .low l ≡ true) × Below l k)
+      go : (l ≡ P .jobs) ⊎ ((B .announced l ≡ true) × Below l k) → (l ≡ P .jobs) ⊎ ((B′ .announced l ≡ true) × Below l k)
       go (inl e) = inl e
       go (inr h) = inr (below l (h .1) .0 ∙ h .0, h .1)
 
   -- The job under k stays finished.
-  fin-keeps : (B B′ : Board) (k l : ℕ) → Keeps B B′ k → Under B k l → B .fin l ≡ true → B′ .fin l ≡ true
+  fin-keeps : (B B′ : Board) (k l : ℕ) → Keeps B B′ k → Under B k l → B .finished l ≡ true → B′ .finished l ≡ true
   fin-keeps B B′ k l K u f = go (u .under)
     where
-      go : (l ≡ P .jobs) ⊎ ((B .low l ≡ true) × Below l k) → B′ .fin l ≡ true
+      go : (l ≡ P .jobs) ⊎ ((B .announced l ≡ true) × Below l k) → B′ .finished l ≡ true
       go (inl e) = rw e (K .none)
       go (inr h) = K .below (u .here) l (h .1) .1 f
 
@@ -281,7 +281,7 @@ commits P s q I =
           (record {
             own = stays-true _ k q;
             none = stays-true _ _ q (I .whole .none);
-            on = λ h. h;
+            active = λ h. h;
             below = λ _ x _. (refl, stays-true _ x q);
           }) (I .each k);
     }
@@ -311,9 +311,9 @@ module _ (plan : Plan) (acc : Accepted (layout plan)) (s : State) (I : CardsHold
       same =
           λ i. record {
             ann = ea i;
-            fin = fun-ext ef i;
-            low = fun-ext (λ k. upd-map (λ j. announced (phase j)) (s .job) p (o .work) k el) i;
-            on = fun-ext (λ k. upd-map (λ (j : Working). isActive (j .place)) (s .job) p (o .work) k eo) i;
+            finished = fun-ext ef i;
+            announced = fun-ext (λ k. upd-map (λ j. announced (phase j)) (s .job) p (o .work) k el) i;
+            active = fun-ext (λ k. upd-map (λ (j : Working). isActive (j .place)) (s .job) p (o .work) k eo) i;
           }
 
   module _ (R : Runs P (board s) p) where
@@ -345,7 +345,7 @@ module _ (plan : Plan) (acc : Accepted (layout plan)) (s : State) (I : CardsHold
             record {
               own = fin k n;
               none = g .none;
-              on = λ h. simp upd-other h;
+              active = λ h. simp upd-other h;
               below = λ on q b. let m : q ≢ p = not-under k q on b in (simp upd-other, fin q m);
             }
 
@@ -385,7 +385,7 @@ module _ (plan : Plan) (acc : Accepted (layout plan)) (s : State) (I : CardsHold
             record {
               own = simp upd-other (λ h. h);
               none = none;
-              on = λ h. h;
+              active = λ h. h;
               below = λ on q b. let m : q ≢ p = not-under k q on b in (refl, simp upd-other (λ h. h));
             }
 
@@ -428,7 +428,7 @@ module _ (plan : Plan) (acc : Accepted (layout plan)) (s : State) (I : CardsHold
               };
           each =
               λ k. on-board-keeps P (board s) (board (announcing (P .card p) p s)) k (s .job k .lid) (phase (s .job k))
-              (record { own = λ h. h; none = I .whole .none; on = λ h. h; below = λ _ _ _. (refl, λ h. h) })
+              (record { own = λ h. h; none = I .whole .none; active = λ h. h; below = λ _ _ _. (refl, λ h. h) })
               (I .each k);
         }
       where
@@ -626,4 +626,4 @@ cards-called P s p u I pN off =
         upd-elim (λ x. OnBoard P (board (record { sh = s .sh; job = J })) k (x .lid) (phase x)) (s .job) p
         (called u (s .job p)) k (λ e. rw e idle-fin) (λ _. on-board-keeps P (board s)
         (board (record { sh = s .sh; job = J })) k (s .job k .lid) (phase (s .job k))
-        (record { own = λ h. h; none = I .whole .none; on = on k; below = λ _ q _. (low q, λ h. h) }) (I .each k))
+        (record { own = λ h. h; none = I .whole .none; active = on k; below = λ _ q _. (low q, λ h. h) }) (I .each k))

@@ -125,7 +125,8 @@ pub record Inside (plan : Plan) (st : Stage) (w : Working) : Type 0 where
 abbrev pub Clear : Working → Type 0
 Clear w = (b : ℕ) → getD (w .dirty) b 0 ≡ 0
 
--- What holds of a job's record and the addresses of its row, whatever V is: in a run, Own; outside, no marks.
+-- What holds of a job's record and the addresses of its row, whatever V is: inside a move, Own; at H22, that the row
+-- has room for what is listed; at H25, nothing; elsewhere, no marks.
 abbrev pub OwnAt : Plan → (ℕ → ℕ) → Working → Part → Type 0
 OwnAt plan addr w elsewhere = Clear w
 OwnAt plan addr w (moving st) =

@@ -878,7 +878,7 @@ module _ (plan : Plan) (ok : Sound plan) (sh : Shared) (job : ℕ → Working)
           Z : Settled plan (s .sh) g job h (winnerOf w)
           Z = E .whole .settled h (winnerOf w) q
 
-  -- A row being read, the running job's record as to what is read here unchanged.
+  -- A row that is being read is still read where the running job's wid, j and numblks stay.
   reads-on :
       (w : Working) → w .wid ≡ job p .wid → w .j ≡ job p .j → w .numblks ≡ job p .numblks
       → (Past v (job p) → Past v w) → Reading plan (s .sh) g job (job p) → Reading plan (s .sh) g (upd job p w) w
@@ -917,7 +917,7 @@ module _ (plan : Plan) (ok : Sound plan) (sh : Shared) (job : ℕ → Working)
       let q : job p .j + 1 ≡ sh′ .numblks (winnerOf (job p)) = omega arith in
       subst (PutOk plan sh′ g′ J′ (winnerOf (job p))) q K
 
-  -- The record after H41, and that it is past its deciding if it was.
+  -- The record after H41.
   abbrev j₄ : Working
   j₄ = goto (if ltb (job p .j + 1) (job p .numblks) then Place.H36 else Place.H42) (nextBlock (job p))
 

@@ -163,7 +163,7 @@ module _ (P : Layout) (v : Version) (A A′ : ℕ → ℕ) (S S′ : ℕ → Sta
   pub record Sees (j : Working) : Type 0 where
     pub ann : v .flag ≡ true → chief P v A′ S′ ≡ chief P v A S
     pub stat : v .flag ≡ true → Onward (S (chief P v A S)) (S′ (chief P v A S))
-    pub w :
+    pub next :
         (v .flag ≡ true → S (chief P v A S) ≡ finished) → A ((v .count + 1) % P .cards) ≡ j .hid
         → isFinished (S (j .hid)) ≡ false
         → (A′ ((v .count + 1) % P .cards) ≡ j .hid) × (isFinished (S′ (j .hid)) ≡ false)
@@ -222,7 +222,7 @@ module _ (P : Layout) (v : Version) (A A′ : ℕ → ℕ) (S S′ : ℕ → Sta
   mover-keeps j settle K f h = tt
   mover-keeps j put K f h = tt
   mover-keeps j out K f h = tt
-  mover-keeps j swing K f h = λ n. K .w f (h n .0) (h n .1)
+  mover-keeps j swing K f h = λ n. K .next f (h n .0) (h n .1)
 
   -- Every clause of one job in the frame.
   pub epoch-keeps : (k : ℕ) (j : Working) → Sees j → InEpoch P v A S k j → InEpoch P v A′ S′ k j

@@ -4,7 +4,8 @@
 -- own clauses are asked. A2 makes a status −1 that was N, so it is neither the chief's, who is announced, nor that of a
 -- job found pending. A14 and A15 store to the announcement of the running job's card. Were that the chief's card, the
 -- running job would be at or above the chief, and ChiefGuard keeps such a job out of A14 and A15; and by the first
--- layer no job there is at or above a pending announced job, so what A10 found on the next card stays. H25 and H42 are
+-- layer no job at A14 or A15 is at or above a pending announced job of its card, so what A10 found on the next card
+-- stays. H25 and H42 are
 -- done by fresh jobs only, and they help the chief: its status alone goes on, to a job's number and then to N. No fresh
 -- job is at A10 or A12 at that time, as the chief was not finished. A12 moves V when the mover is fresh: then the chief
 -- is finished, so no status is a job's number; a true new flag speaks of a pending announced job, and the first layer
@@ -323,7 +324,7 @@ module _ (plan : Plan) (acc : Accepted (layout plan)) (sh : Shared) (job : ℕ �
         record {
           ann = chief-same;
           stat = λ _. Onward.same;
-          w = λ _ e f. (upd-other ann (P .card p) x following (λ c. not-next (job k .hid) (sym c) e f) ∙ e, f);
+          next = λ _ e f. (upd-other ann (P .card p) x following (λ c. not-next (job k .hid) (sym c) e f) ∙ e, f);
         })
         own
       where
@@ -353,7 +354,7 @@ module _ (plan : Plan) (acc : Accepted (layout plan)) (sh : Shared) (job : ℕ �
       record {
         ann = λ _. refl;
         stat = λ f. rw (upd-other stat p undecided head (other f)) Onward.same;
-        w = λ _ e f. (e, rw (upd-other stat p undecided (job k .hid) (λ z. true≢false (sym fp ∙ rw z at f))) f);
+        next = λ _ e f. (e, rw (upd-other stat p undecided (job k .hid) (λ z. true≢false (sym fp ∙ rw z at f))) f);
       })
       own
     where
@@ -384,7 +385,7 @@ module _ (plan : Plan) (acc : Accepted (layout plan)) (sh : Shared) (job : ℕ �
       record {
         ann = λ _. refl;
         stat = λ _. rw (upd-at stat (w .hid) y head (sym q)) o;
-        w = λ done. absurd (true≢false (sym (ap isFinished (done f)) ∙ nf));
+        next = λ done. absurd (true≢false (sym (ap isFinished (done f)) ∙ nf));
       })
       (record { old = rw ev (le-refl _); flag = fl; guard = guard; fresh = λ _ _. fr; mover = λ _. mv }))
     where

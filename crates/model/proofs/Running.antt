@@ -311,7 +311,7 @@ module _ (P : Layout) where
         let own = R .mine k (sh .2) in
         (own .0, omega (arith, own .1, R .room), own .2)
 
-  -- A run at its begin: all of os is still to do, and nothing is listed, written or used. The word last taken is
+  -- A run at its start: all of os is still to do, and nothing is listed, written or used. The word last taken is
   -- whatever the job took last, in an earlier run.
   pub record Begun (os : List Op) (r : Attempt) : Type 0 where
     pub todo-is : r .todo ≡ os
@@ -324,15 +324,15 @@ module _ (P : Layout) where
     pub enough : newCopies P os (λ _. false) ≤ P .copies
 
   module _ {os : List Op} {r : Attempt} (begun : Begun os r) where
-    -- At the begin nothing is listed.
+    -- At the start nothing is listed.
     not-listed : (k : ℕ) → r .listed k ≡ false
     not-listed k = ap (λ f. f k) (begun .none-listed)
 
-    -- At the begin nothing is written.
+    -- At the start nothing is written.
     not-written : (k : ℕ) → r .wrote k ≡ false
     not-written k = ap (λ f. f k) (begun .none-written)
 
-    -- The begin of a run.
+    -- The start of a run.
     pub own-begun : (cp : ℕ → ℕ) → Own P cp r
     own-begun cp =
         record {
@@ -346,7 +346,7 @@ module _ (P : Layout) where
           in-stock = λ k h. absurd (true≢false (sym h ∙ not-listed k));
         }
 
-    -- The begin of a run while nothing is decided, where the update does not depend on the word taken before it.
+    -- The start of a run while nothing is decided, where the update does not depend on the word taken before it.
     pub live-begun :
         (mem : Blocks) (bank : ℕ → ℕ) (blk : Blocks) (cp : ℕ → ℕ) → mem ≡ seen P bank blk
         → exec os (seen P bank blk) (r .word) ≡ exec os (seen P bank blk) 0 → Live P os mem bank blk cp r

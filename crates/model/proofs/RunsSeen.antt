@@ -232,7 +232,7 @@ onward-rest Q plan w hm _ f g =
         })
         (moves-from (plan .sizes .words) (moves plan w) (w .index + 1) _ l refl ∙ sym (rest-moves plan w h))
 
--- The begin of moves, by whether there are any.
+-- The start of moves, by whether there are any.
 begin-cases :
     (Q : Place → Type 0) (ms : List Move) → (0 < length ms → Q (Place.Move Stage.Check)) → (ms ≡ [] → Q Place.H22)
     → Q (begin ms)
@@ -314,7 +314,7 @@ module _ (os before : List Op) (addr : ℕ → ℕ) (w : Working) where
       (a : Place) (m n : ℕ) → attempt os addr (goto a (withAccess m n w)) ≡ passed os (attempt before addr w)
   attempt-passed a m n = refl
 
--- With no block marked, the run of a job that takes an update is at its begin.
+-- With no block marked, the run of a job that takes an update is at its start.
 pub attempt-begun :
     (P : Layout) (os : List Op) (addr : ℕ → ℕ) (u : ℕ) (w : Working) → Clear w → Shape P os (λ _. false) (λ _. false)
     → newCopies P os (λ _. false) ≤ P .copies → Begun P os (attempt os addr (taking u w))

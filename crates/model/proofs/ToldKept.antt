@@ -446,7 +446,7 @@ module _
     (D : EpochsHold (layout plan) (record { sh = showing plan sh; job = job }))
     (I : BypassHolds (layout plan) (sh .v) (sh .ann) (showing plan sh .stat) job H) (p : ℕ)
     (R : Runs (layout plan) (board (record { sh = showing plan sh; job = job })) p) where
-  -- The state before, and the entries after.
+  -- The state before.
   abbrev s : State
   s = record { sh = showing plan sh; job = job }
 
@@ -458,7 +458,7 @@ module _
   abbrev helped : ℕ
   helped = job p .hid
 
-  -- The event of what the item at a place gave, and the history after it.
+  -- The event of what the item at a place gave.
   abbrev event : Place → Out → Event
   event a o =
       record {

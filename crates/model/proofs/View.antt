@@ -40,7 +40,7 @@ isUndecided undecided = true
 isUndecided (decided w) = false
 isUndecided finished = false
 
--- A status as a number, where there are n jobs.
+-- What a number means as a status, where there are n jobs.
 unfoldable pub statusIn : ℕ → ℤ → Status
 statusIn n x = cond (same x (negsuc 0)) undecided (cond (same x (pos n)) finished (decided (jobNamed x)))
 

@@ -1,5 +1,5 @@
 -- A memory of words as blocks: an update's small steps, run whole on the blocks, do what its moves do to the words. And
--- what acceptance of a plan says of an update's small steps. Assumes nothing.
+-- what acceptance of a plan says of an update's small steps. Assumes a sound plan where a law names it.
 --
 -- Word w is word w mod S of block w div S. So a word written is one word changed of one block, and a word read is the
 -- word of that block at that place. A move reads before it uses the word taken, so the word taken before an update says
