@@ -12,7 +12,7 @@ use native.Mathlib.Nat.{mul-le-mul-right}
 use native.Mathlib.Decide.{decLt}
 use native.Mathlib.Omega.{arith}
 use lib.Dec.{ltb}
-use lib.ListN.{length, getD, set, take, drop, replicate, length-drop, List·getD-append}
+use lib.ListN.{length, getD, set, take, drop, replicate, length-drop, List·getD-append, length-append}
 use lib.Seq.{
   paste,
   length-take-le,
@@ -59,6 +59,12 @@ pub getD-all {ℓ} : {A : Type ℓ} (n k : ℕ) (a : A) → getD (replicate n a)
 getD-all zero k a = refl
 getD-all (suc n) zero a = refl
 getD-all (suc n) (suc k) a = getD-all n k a
+
+-- Numbers that take the first places of a list leave its length, where it has so many.
+pub length-first-places :
+    (ns l : List ℕ) → length ns ≤ length l → length (inFirstPlaces ns l) ≡ length l
+length-first-places ns l h =
+    length-append ns (drop (length ns) l) ∙ rw (length-drop (length ns) l) (omega arith)
 
 -- Two lists in a row, read behind the first.
 getD-behind {ℓ} :

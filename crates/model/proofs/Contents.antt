@@ -12,7 +12,7 @@
 -- commit in the same epoch finds new numbers where it would store them, and changes nothing.
 --
 -- Assumes the first two layers.
-use Prim.Native.Nat.{ℕ, _<_}
+use Prim.Native.Nat.{ℕ, _≤_, _<_}
 use mathlib.Core.Path.{_≡_}
 use mathlib.Core.Logic.{_≢_, _⊎_}
 use mathlib.Core.Bool.{Bool, true, false}
@@ -131,7 +131,7 @@ abbrev pub OwnAt : Plan → (ℕ → ℕ) → Working → Part → Type 0
 OwnAt plan addr w elsewhere = Clear w
 OwnAt plan addr w (moving st) =
     Inside plan st w × Own (layout plan) (copyOf w) (attempt (ahead plan st w) addr w)
-OwnAt plan addr w publish = Unit {0}
+OwnAt plan addr w publish = w .numblks ≤ plan .sizes .blocks
 OwnAt plan addr w deciding = Unit {0}
 OwnAt plan addr w first = Clear w
 OwnAt plan addr w looping = Clear w

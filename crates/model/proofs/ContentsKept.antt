@@ -44,7 +44,7 @@ use Rattle.model.specs.Working.{
   cleared,
   nextBlock,
 }
-use Rattle.model.specs.Steps.{Shared, quiet, storing, item, stage, afterDeciding}
+use Rattle.model.specs.Steps.{Shared, quiet, storing, item, stage, replaced, afterDeciding}
 use Rattle.model.proofs.Update.{upd, upd-same, upd-other, upd-at, upd-elim}
 use Rattle.model.proofs.View.{
   Status,
@@ -72,6 +72,7 @@ use Rattle.model.proofs.View.{
   decided≢finished,
 }
 use Rattle.model.proofs.Sizes.{Roomy, Fits}
+use Rattle.format.specs.Stored.{table}
 use Rattle.format.proofs.Tables.{length-table}
 use Rattle.model.proofs.Tests.{test, store-elim, and-l, and-r, or-l, or-r, same-version, failed, stale}
 use Rattle.model.proofs.SmallSteps.{
@@ -111,7 +112,8 @@ use Rattle.model.proofs.Running.{
   live-write,
 }
 use Rattle.model.proofs.Settling.{listed-at, reclaim, bank-known}
-use Rattle.model.proofs.Pigeonhole.{fewer}
+use Rattle.model.proofs.Pigeonhole.{at-most, fewer}
+use Rattle.model.proofs.Arrays.{length-first-places}
 use Rattle.model.proofs.Words.{word-free, shape-fits, room-fits}
 use Rattle.model.proofs.RunsSeen.{
   rest,
@@ -136,6 +138,7 @@ use Rattle.model.proofs.RunsSeen.{
   roomy-cleared,
   clear-cleared,
   copy-reclaimed,
+  length-replaced,
 }
 use Rattle.model.proofs.Cards.{start, phaseAt, second, phase, announced, board, Runs, OnBoard, CardsHold}
 use Rattle.model.proofs.Epochs.{
@@ -153,6 +156,7 @@ use Rattle.model.proofs.Contents.{
   ghostStat,
   ghost,
   elsewhere,
+  deciding,
   first,
   looping,
   last,
@@ -232,12 +236,12 @@ module _ (plan : Plan) (ok : Sound plan) (sh : Shared) (job : ℕ → Working)
   -- What the item gives keeps the layer and stays inside the arrays.
   pub record Good (o : Out) : Type 0 where
     pub kept : ContentsHold plan (after plan p o s) (ghost plan (s .sh) (o .store) g)
-    pub fits : Fits plan (o .store)
+    pub fits : Fits plan (o .work) (o .store)
 
   -- A store to a status, by what it means.
   means :
       (q : ℕ) (x : ℤ) (y : Status) (w : Working) (d : Bool) → statusIn (plan .sizes .jobs) x ≡ y
-      → Fits plan (Store.Stat q x)
+      → Fits plan w (Store.Stat q x)
       → ContentsHold plan (record { sh = withCells (sh .ann) (upd stat q y) (sh .trans) (s .sh); job = upd job p w })
       (ghostStat P (sh .trans) q y g) → Good (record { work = w; store = Store.Stat q x; done = d })
   means q x y w d e f c =
@@ -262,8 +266,9 @@ module _ (plan : Plan) (ok : Sound plan) (sh : Shared) (job : ℕ → Working)
       }
 
   -- A record with the marks and numbers of another.
-  roomy-as : (w : Working) → w .dirty ≡ job p .dirty → w .curr ≡ job p .curr → Roomy w
-  roomy-as w d c = roomy-same (job p) w d c (E .each p .roomy)
+  roomy-as :
+      (w : Working) → w .dirty ≡ job p .dirty → w .curr ≡ job p .curr → w .copy ≡ job p .copy → Roomy w
+  roomy-as w d c e = roomy-same (job p) w d c e (E .each p .roomy)
 
   -- The running job is past its deciding and stays so.
   past-on :
@@ -368,7 +373,7 @@ module _ (plan : Plan) (ok : Sound plan) (sh : Shared) (job : ℕ → Working)
       → w .curr ≡ job p .curr → Clear (job p) → (Past v (job p) → Past v w) → Good (quiet w)
   rests w e cp d cu c pp =
       still w cp pp
-      (plain-contents (s .sh) g (upd job p w) w (roomy-as w d cu) (subst (λ l. (b : ℕ) → getD l b 0 ≡ 0) (sym d) c) e)
+      (plain-contents (s .sh) g (upd job p w) w (roomy-as w d cu cp) (subst (λ l. (b : ℕ) → getD l b 0 ≡ 0) (sym d) c) e)
 
   -- The same, the marks cleared.
   clears :
@@ -377,7 +382,7 @@ module _ (plan : Plan) (ok : Sound plan) (sh : Shared) (job : ℕ → Working)
   clears w e cp d cu pp =
       still w cp pp
       (plain-contents (s .sh) g (upd job p w) w
-      (roomy-same (cleared (job p)) w d cu (roomy-cleared (job p) (E .each p .roomy)))
+      (roomy-same (cleared (job p)) w d cu cp (roomy-cleared (job p) (E .each p .roomy)))
       (subst (λ l. (b : ℕ) → getD l b 0 ≡ 0) (sym d) (clear-cleared (job p)))
       e)
 
@@ -398,20 +403,31 @@ module _ (plan : Plan) (ok : Sound plan) (sh : Shared) (job : ℕ → Working)
     goes-on st w os cp r i e o L =
         still (goto (Place.Move st) w) cp (λ q. absurd (np q))
         (record {
-          roomy = record { dirty = r .dirty; curr = r .curr };
+          roomy = record { dirty = r .dirty; curr = r .curr; copy = r .copy };
           own = (i, rw (e, cp) o);
           fresh = λ z f u. rw (e, cp) (L z f u);
         })
 
+    -- A run lists at most all blocks.
+    few-listed : (os : List Op) (w : Working) → Own P (copyOf (job p)) (attempt os addr w) → w .numblks ≤ P .blocks
+    few-listed os w o =
+        rw (length-table (w .numblks) addr) at
+        (at-most (P .blocks) (table (w .numblks) addr) (o .distinct)
+        (λ k i. o .in-blocks k (sym (o .order-is k) ∙ i)))
+
     -- A small step that stores nothing, to H22.
     ends :
-        (w : Working) → w .copy ≡ job p .copy → Roomy w
+        (w : Working) → w .copy ≡ job p .copy → Roomy w → w .numblks ≤ P .blocks
         → (w .ver ≡ v → v .flag ≡ true → isUndecided (stat h) ≡ true
         → Live P (P .ops (sh .trans h)) (g .mem) (sh .bank) blk (copyOf (job p)) (attempt [] addr w) × Olds plan
         (s .sh) g job p w) → Good (quiet (goto Place.H22 w))
-    ends w cp r L =
+    ends w cp r few L =
         still (goto Place.H22 w) cp (λ q. absurd (np q))
-        (record { roomy = record { dirty = r .dirty; curr = r .curr }; own = tt; fresh = λ z f u. rw cp (L z f u) })
+        (record {
+          roomy = record { dirty = r .dirty; curr = r .curr; copy = r .copy };
+          own = few;
+          fresh = λ z f u. rw cp (L z f u);
+        })
 
     -- The clauses of the run that the job is in, at a stage.
     module _ (st : Stage) (I : Inside plan st (job p))
@@ -453,8 +469,9 @@ module _ (plan : Plan) (ok : Sound plan) (sh : Shared) (job : ℕ → Working)
       goes-behind x et ei ea cp rx ox lx =
           onward-rest (λ y. Good (quiet y)) plan x (rw (et, ei) (I .in-moves)) (rw (et, ei, ea) (I .in-move))
           (λ m a ins e. goes-on Stage.Check (withAccess m a x) (rest plan (job p)) cp
-          (roomy-same x (withAccess m a x) refl refl rx) ins (e ∙ rest-same plan (job p) x et ei ea) ox lx)
-          (λ m a e. ends (withAccess m a x) cp (roomy-same x (withAccess m a x) refl refl rx)
+          (roomy-same x (withAccess m a x) refl refl refl rx) ins (e ∙ rest-same plan (job p) x et ei ea) ox lx)
+          (λ m a e. ends (withAccess m a x) cp (roomy-same x (withAccess m a x) refl refl refl rx)
+          (few-listed (rest plan (job p)) x ox)
           (λ z f u. let n : rest plan (job p) ≡ [] = sym (rest-same plan (job p) x et ei ea) ∙ e in
           let l = lx z f u in (
             subst (λ os. Live P (P .ops (sh .trans h)) (g .mem) (sh .bank) blk (copyOf (job p)) (attempt os addr x)) n
@@ -537,7 +554,7 @@ module _ (plan : Plan) (ok : Sound plan) (sh : Shared) (job : ℕ → Working)
                     newlist = refl;
                   }) j refl (record {
                     roomy =
-                        roomy-same (listing k b (job p)) j refl refl (roomy-listing k b (job p) (E .each p .roomy));
+                        roomy-same (listing k b (job p)) j refl refl refl (roomy-listing k b (job p) (E .each p .roomy));
                     own = (
                       inside-same plan (job p) j refl refl refl st (afterList (access plan (job p))) I
                           (after-list (access plan (job p))),
@@ -592,7 +609,7 @@ module _ (plan : Plan) (ok : Sound plan) (sh : Shared) (job : ℕ → Working)
                     keeps-block plan s D g E p np (job p .dirtycnt) has-room (blk (getD (job p .curr) k 0)) jc refl
                     (record {
                       roomy =
-                          roomy-same (copying k c (job p)) jc refl refl (roomy-copying k c (job p) (E .each p .roomy));
+                          roomy-same (copying k c (job p)) jc refl refl refl (roomy-copying k c (job p) (E .each p .roomy));
                       own = (
                         inside-same plan (job p) jc refl refl refl st Stage.Write I so,
                         subst
@@ -617,7 +634,7 @@ module _ (plan : Plan) (ok : Sound plan) (sh : Shared) (job : ℕ → Working)
           → Good (quiet (onward plan (withWord (sh .blk (getD (job p .curr) k 0) (offset plan (job p))) (job p))))
       keeps-taking e =
           goes-behind (withWord (sh .blk (getD (job p .curr) k 0) (offset plan (job p))) (job p)) refl refl refl refl
-          (roomy-as (withWord (sh .blk (getD (job p .curr) k 0) (offset plan (job p))) (job p)) refl refl)
+          (roomy-as (withWord (sh .blk (getD (job p .curr) k 0) (offset plan (job p))) (job p)) refl refl refl)
           (own-take P o (offset plan (job p)) (sh .blk (getD (job p .curr) k 0) (offset plan (job p))) e)
           (λ z f u. let l = L z f u in (
             subst
@@ -691,13 +708,13 @@ module _ (plan : Plan) (ok : Sound plan) (sh : Shared) (job : ℕ → Working)
               (job p) (I .in-moves) (I .in-move) (λ m a ins q. writesTo
               (goto (Place.Move Stage.Check) (withAccess m a (job p))) refl
               (record {
-                roomy = roomy-as (goto (Place.Move Stage.Check) (withAccess m a (job p))) refl refl;
+                roomy = roomy-as (goto (Place.Move Stage.Check) (withAccess m a (job p))) refl refl refl;
                 own = (ins, rw q (own-write P o (offset plan (job p)) (move plan (job p)) e));
                 fresh = λ z f u. rw q (written-live z f u);
               })) (λ m a q. writesTo (goto Place.H22 (withAccess m a (job p))) refl
               (record {
-                roomy = roomy-as (goto Place.H22 (withAccess m a (job p))) refl refl;
-                own = tt;
+                roomy = roomy-as (goto Place.H22 (withAccess m a (job p))) refl refl refl;
+                own = few-listed (ahead plan st (job p)) (job p) o;
                 fresh =
                     λ z f u. let l = written-live z f u in (
                       subst (λ os. Live P (P .ops (sh .trans h)) (g .mem) (sh .bank) (blk′ (copyOf (job p) (mine .0)))
@@ -737,9 +754,9 @@ module _ (plan : Plan) (ok : Sound plan) (sh : Shared) (job : ℕ → Working)
         (goto (begin (getD (plan .updates) (sh .trans (job p .hid)) [])) (taking (sh .trans (job p .hid)) (job p))))
     keeps-H21 c fk =
         begin-ahead (λ a. Good (quiet (goto a (taking u (job p))))) plan u (job p)
-        (λ ins e. goes-on Stage.Check (taking u (job p)) (P .ops u) refl (roomy-as (taking u (job p)) refl refl) ins e
+        (λ ins e. goes-on Stage.Check (taking u (job p)) (P .ops u) refl (roomy-as (taking u (job p)) refl refl refl) ins e
         (own-begun P begun (copyOf (job p))) (λ z f n. (live z f n, λ i l. absurd (omega arith))))
-        (λ e. ends (taking u (job p)) refl (roomy-as (taking u (job p)) refl refl)
+        (λ e. ends (taking u (job p)) refl (roomy-as (taking u (job p)) refl refl refl) (omega arith)
         (λ z f n. (
           subst (λ os. Live P (P .ops (sh .trans h)) (g .mem) (sh .bank) blk (copyOf (job p))
               (attempt os addr (taking u (job p)))) e (live z f n),
@@ -763,38 +780,57 @@ module _ (plan : Plan) (ok : Sound plan) (sh : Shared) (job : ℕ → Working)
             (E .whole .calm (none-decided plan s D g E p n) .0)
             (word-free plan u (seen P (sh .bank) blk) (job p .word) 0))
 
-    -- H22: the row is published.
+    -- H22, to the record w: the row is published.
     keeps-H22 :
-        (job p .ver ≡ v → v .flag ≡ true → isUndecided (stat h) ≡ true
+        (w : Working) → part (w .place) ≡ deciding → w .ver ≡ job p .ver → w .copy ≡ job p .copy
+        → w .dirty ≡ job p .dirty → w .curr ≡ job p .curr → w .numblks ≡ job p .numblks
+        → attempt [] addr w ≡ attempt [] addr (job p) → job p .numblks ≤ P .blocks
+        → (job p .ver ≡ v → v .flag ≡ true → isUndecided (stat h) ≡ true
         → LiveAt plan (s .sh) g job [] p (job p) × Olds plan (s .sh) g job p (job p))
-        → Good (storing Store.Published (goto Place.H25 (job p)))
-    keeps-H22 L =
+        → Good (storing Store.Published w)
+    keeps-H22 w e ev cp d c n same few L =
         record {
           kept =
-              keeps-row plan s D g E p np (upd (sh .numblks) p (job p .numblks)) (sh .addrlist) (sh .oldlist)
-              (upd (sh .newlist) p new) (λ x n. record {
-                numblks = upd-other (sh .numblks) p _ x n;
+              keeps-row plan s D g E p np (upd (sh .numblks) p (w .numblks)) (sh .addrlist) (sh .oldlist)
+              (upd (sh .newlist) p new)
+              (λ x m. record {
+                numblks = upd-other (sh .numblks) p _ x m;
                 addrlist = refl;
                 oldlist = refl;
-                newlist = upd-other (sh .newlist) p _ x n;
-              }) (goto Place.H25 (job p)) refl (record {
-                roomy = roomy-as (goto Place.H25 (job p)) refl refl;
-                own = tt;
-                fresh =
-                    λ z f u. let l = L z f u in (
-                      l .0,
-                      l .1,
-                      record {
-                        count = upd-same (sh .numblks) p (job p .numblks);
-                        news = λ i hi. ap (λ f. f i) (upd-same (sh .newlist) p new) ∙ rw (lt-ltb i (job p .numblks) hi);
-                      },
-                    );
-              });
-          fits = tt;
+                newlist = upd-other (sh .newlist) p _ x m;
+              })
+              w cp
+              (record { roomy = roomy-as w d c cp; own = rw e tt; fresh = λ z f. rw e (ready (sym ev ∙ z) f) });
+          fits = let m = ok .blocks in omega arith;
         }
       where
+        -- the new numbers of the row
         new : ℕ → ℕ
-        new = published (sh .addrlist p) (sh .newlist p) (goto Place.H25 (job p))
+        new = published (sh .addrlist p) (sh .newlist p) w
+
+        -- the scene with the row published
+        sh₂ : Scene
+        sh₂ =
+            withRows (upd (sh .numblks) p (w .numblks)) (sh .addrlist) (sh .oldlist) (upd (sh .newlist) p new) (s .sh)
+
+        -- for a fresh job: its run is at its end, and its row is published
+        ready :
+            job p .ver ≡ v → v .flag ≡ true → isUndecided (stat h) ≡ true
+            → LiveAt plan sh₂ g (upd job p w) [] p w
+            × Olds plan sh₂ g (upd job p w) p w
+            × Published plan sh₂ g (upd job p w) p w
+        ready z f u =
+            let l = L z f u in
+            (
+              subst (λ l. Live P (P .ops (sh .trans h)) (g .mem) (sh .bank) blk (λ i. getD l i 0) (attempt [] addr w))
+                  (sym cp)
+                  (subst (Live P (P .ops (sh .trans h)) (g .mem) (sh .bank) blk (copyOf (job p))) (sym same) (l .0)),
+              λ i hi. l .1 i (rw n at hi),
+              record {
+                count = upd-same (sh .numblks) p (w .numblks);
+                news = λ i hi. ap (λ f. f i) (upd-same (sh .newlist) p new) ∙ rw (lt-ltb i (w .numblks) hi);
+              },
+            )
 
     -- H25 done, to the record w: the update of job hid is decided by p.
     keeps-H25 :
@@ -805,19 +841,24 @@ module _ (plan : Plan) (ok : Sound plan) (sh : Shared) (job : ℕ → Working)
         × Olds plan (s .sh) g job p (job p)
         × Published plan (s .sh) g job p (job p))
         → part (w .place) ≡ elsewhere → (Past v w) → w .dirty ≡ cleared (job p) .dirty → w .curr ≡ job p .curr
-        → (Olds plan (s .sh) g job p (job p)
-        → copyOf w ≡ reclaim (sh .bank) (attempt [] addr (job p)) (copyOf (job p)))
+        → (LiveAt plan (s .sh) g job [] p (job p)
+        → Olds plan (s .sh) g job p (job p)
+        → (copyOf w ≡ reclaim (sh .bank) (attempt [] addr (job p)) (copyOf (job p))) × (length (w .copy) ≡ 8))
         → statusIn (plan .sizes .jobs) x ≡ decided p → Proper x
         → Good (record { work = w; store = Store.Stat (job p .hid) x; done = true })
     keeps-H25 w x ev und eq L pl pw dw cw rc y proper =
         means (job p .hid) x (decided p) w true y
         (let l : h < P .jobs = chief-small in let m = ok .jobs in rw eq (omega arith), proper)
-        (keeps-decide plan s D g E p (job p .hid) eq u p<N (l .0) (l .1) (l .2) w (rc (l .1)) pw
+        (keeps-decide plan s D g E p (job p .hid) eq u p<N (l .0) (l .1) (l .2) w (rc (l .0) (l .1) .0) pw
         (plain-contents (withCells (sh .ann) (upd stat (job p .hid) (decided p)) (sh .trans) (s .sh))
         (record { mem = g .mem; done = λ _. false })
         (upd job p w)
         w
-        (roomy-same (cleared (job p)) w dw cw (roomy-cleared (job p) (E .each p .roomy)))
+        (record {
+          dirty = ap length dw;
+          curr = ap length cw ∙ E .each p .roomy .curr;
+          copy = rc (l .0) (l .1) .1;
+        })
         (subst (λ l. (b : ℕ) → getD l b 0 ≡ 0) (sym dw) (clear-cleared (job p)))
         pl))
       where
@@ -898,7 +939,7 @@ module _ (plan : Plan) (ok : Sound plan) (sh : Shared) (job : ℕ → Working)
   on-row a e up k c K =
       still (goto a (job p)) refl (past-on (goto a (job p)) refl up k)
       (record {
-        roomy = roomy-as (goto a (job p)) refl refl;
+        roomy = roomy-as (goto a (job p)) refl refl refl;
         own = rw e c;
         fresh =
             λ z f. rw e (reads-on (goto a (job p)) refl refl refl (past-on (goto a (job p)) refl up k) (K z f));
@@ -936,14 +977,14 @@ module _ (plan : Plan) (ok : Sound plan) (sh : Shared) (job : ℕ → Working)
   loc₄ sh′ g′ J′ c K =
       test (λ a. JobContents plan sh′ g′ J′ p (goto a (nextBlock (job p)))) _ _ _
       (λ t. record {
-        roomy = roomy-as _ refl refl;
+        roomy = roomy-as _ refl refl refl;
         own = c;
         fresh =
             λ z f. let k = K z f in
             let y = next-line sh′ g′ J′ true t (k .0) (k .1) (k .2) in
             record { ok = y .ok; inside = y .inside; count = y .count };
       }) (λ t. record {
-        roomy = roomy-as _ refl refl;
+        roomy = roomy-as _ refl refl refl;
         own = c;
         fresh = λ z f. let k = K z f in next-line sh′ g′ J′ false t (k .0) (k .1) (k .2);
       })
@@ -992,12 +1033,23 @@ module _ (plan : Plan) (ok : Sound plan) (sh : Shared) (job : ℕ → Working)
 
   -- The copy list after H25 is done.
   reclaims-copies :
-      Olds plan (s .sh) g job p (job p)
-      → copyOf (afterDeciding plan sh p (job p))
-      ≡ reclaim (sh .bank) (attempt [] (sh .addrlist p) (job p)) (copyOf (job p))
+      LiveAt plan (s .sh) g job [] p (job p) → Olds plan (s .sh) g job p (job p)
+      → (copyOf (afterDeciding plan sh p (job p))
+      ≡ reclaim (sh .bank) (attempt [] (sh .addrlist p) (job p)) (copyOf (job p)))
+      × (length (afterDeciding plan sh p (job p) .copy) ≡ 8)
   unfolding reclaim
-  reclaims-copies O =
-      fun-ext (λ i. copy-reclaimed (sh .addrlist p) (sh .oldlist p) (sh .bank) (job p) O i)
+  reclaims-copies L O = (
+    fun-ext (λ i. copy-reclaimed (sh .addrlist p) (sh .oldlist p) (sh .bank) (job p) O i),
+    length-first-places (replaced (sh .addrlist p) (sh .oldlist p) (job p .dirty) (job p .numblks)) (job p .copy)
+        (omega
+        (arith,
+        length-replaced (sh .addrlist p) (sh .oldlist p) (sh .bank) (job p) O,
+        L .count,
+        L .own .room,
+        E .each p .roomy .copy,
+        ok .copies))
+        ∙ E .each p .roomy .copy,
+  )
 
   -- The number p means decided by p.
   decided-by-p : statusIn (plan .sizes .jobs) (pos p) ≡ decided p
@@ -1016,10 +1068,10 @@ module _ (plan : Plan) (ok : Sound plan) (sh : Shared) (job : ℕ → Working)
       still (job p) refl (λ q. q) (record { roomy = E .each p .roomy; own = rw e own; fresh = λ _ _. rw e tt })
   items Place.A1 e c fl guard fk own sk =
       keeps-A1 (rw e) c _ _ refl (λ q. absurd (rw e at (q .past)))
-      (plain-contents _ _ _ _ (roomy-as _ refl refl) own refl)
+      (plain-contents _ _ _ _ (roomy-as _ refl refl refl) own refl)
   items Place.A2 e c fl guard fk own sk =
       keeps-A2 (rw e) c _ refl (λ q. absurd (rw e at (q .past)))
-      (plain-contents _ _ _ _ (roomy-as _ refl refl) own refl)
+      (plain-contents _ _ _ _ (roomy-as _ refl refl refl) own refl)
   items Place.A4 e c fl guard fk own sk =
       test Good _ _ _ (λ _. rests _ refl refl refl refl own (λ q. absurd (rw e at (q .past))))
       (λ _. rests _ refl refl refl refl own (λ q. absurd (rw e at (q .past))))
@@ -1034,18 +1086,18 @@ module _ (plan : Plan) (ok : Sound plan) (sh : Shared) (job : ℕ → Working)
         kept =
             keeps-turn plan s D g E p (record { count = job p .ver .count + 1; flag = job p .next })
             (goto Place.A7 (job p)) (ap (λ (x : Version). x .count + 1) (sym ev)) refl
-            (plain-contents _ _ _ _ (roomy-as _ refl refl) own refl) (fk ev);
+            (plain-contents _ _ _ _ (roomy-as _ refl refl refl) own refl) (fk ev);
         fits = tt;
       }) (λ t. rests _ refl refl refl refl own (λ q. absurd (stale v (job p .ver) (search) (q .fresh))))
   items Place.A14 e c fl guard fk own sk =
       test Good _ _ _
       (λ t. keeps-announcement guard p _ refl (λ q. absurd (rw e at (q .past)))
-      (plain-contents _ _ _ _ (roomy-as _ refl refl) own refl))
+      (plain-contents _ _ _ _ (roomy-as _ refl refl refl) own refl))
       (λ t. keeps-announcement guard p _ refl (λ q. absurd (rw e at (q .past)))
-      (plain-contents _ _ _ _ (roomy-as _ refl refl) own refl))
+      (plain-contents _ _ _ _ (roomy-as _ refl refl refl) own refl))
   items Place.A15 e c fl guard fk own sk =
       keeps-announcement guard _ _ refl (λ q. absurd (rw e at (q .past)))
-      (plain-contents _ _ _ _ (roomy-as _ refl refl) own refl)
+      (plain-contents _ _ _ _ (roomy-as _ refl refl refl) own refl)
   items Place.H16 e c fl guard fk own sk = rests _ refl refl refl refl own (λ q. absurd (rw e at (q .past)))
   items Place.H17 e c fl guard fk own sk =
       test Good _ _ _ (λ _. rests _ refl refl refl refl own (λ q. absurd (rw e at (q .past))))
@@ -1053,7 +1105,8 @@ module _ (plan : Plan) (ok : Sound plan) (sh : Shared) (job : ℕ → Working)
       (λ _. rests _ refl refl refl refl own (λ q. absurd (rw e at (q .past)))))
   items Place.H21 e c fl guard fk own sk = keeps-H21 (λ q. rw e at (q .past)) own fk
   items (Place.Move st) e c fl guard fk own sk = stages (λ q. rw e at (q .past)) st (own .0) (own .1) sk
-  items Place.H22 e c fl guard fk own sk = keeps-H22 (λ q. rw e at (q .past)) sk
+  items Place.H22 e c fl guard fk own sk =
+      keeps-H22 (λ q. rw e at (q .past)) _ refl refl (search) refl refl refl refl own sk
   items Place.H25 e c fl guard fk own sk =
       test Good _ _ _ (λ t. let ev : job p .ver ≡ v = same-version v (job p .ver) (search (and-l, and-r)) in
       let f : v .flag ≡ true = sym (ap (λ (x : Version). x .flag) ev) ∙ fl in
@@ -1064,20 +1117,20 @@ module _ (plan : Plan) (ok : Sound plan) (sh : Shared) (job : ℕ → Working)
       (λ _. clears _ refl (search) (search) refl (λ q. absurd (rw e at (q .past))))
   items Place.H32 e c fl guard fk own sk =
       test Good _ _ _ (λ _. rests _ refl refl refl refl own (past-on _ refl refl tt))
-      (λ t. keeps-H32 _ refl refl (roomy-as _ refl refl) own (past-on _ refl refl tt)
+      (λ t. keeps-H32 _ refl refl (roomy-as _ refl refl refl) own (past-on _ refl refl tt)
       (λ z f. ap stat (sym (fk z f .0)) ∙ decided-else (plan .sizes .jobs) (sh .stat (job p .hid))
       (search (or-l, or-r)) (search (or-l, or-r))))
   items Place.H34 e c fl guard fk own sk =
       test Good _ _ _ (λ t. still _ refl (past-on _ refl refl tt)
       (record {
-        roomy = roomy-as _ refl refl;
+        roomy = roomy-as _ refl refl refl;
         own = own;
         fresh =
             λ z f. subst (PutOk plan (s .sh) g
             (upd job p (goto Place.H42 (withRow (sh .numblks (winnerOf (job p))) (job p)))) (winnerOf (job p)))
             (sym (eqb-true _ _ t)) (put-still _ (past-on _ refl refl tt) _ _ (sk z f));
       })) (λ t. still _ refl (past-on _ refl refl tt) (record {
-        roomy = roomy-as _ refl refl;
+        roomy = roomy-as _ refl refl refl;
         own = own;
         fresh =
             λ z f. record {
@@ -1094,7 +1147,7 @@ module _ (plan : Plan) (ok : Sound plan) (sh : Shared) (job : ℕ → Working)
       (λ _. on-row Place.H38 refl refl tt own sk)
   items Place.H38 e c fl guard fk own sk =
       still _ refl (past-on _ refl refl tt) (record {
-        roomy = roomy-as _ refl refl;
+        roomy = roomy-as _ refl refl refl;
         own = own;
         fresh =
             λ z f. (
@@ -1121,7 +1174,7 @@ module _ (plan : Plan) (ok : Sound plan) (sh : Shared) (job : ℕ → Working)
             rw eq (omega arith),
         tt,
       ) (keeps-commit plan s D g E p (winnerOf (job p)) (sh .numblks (winnerOf (job p))) (sk ev f)
-      (job p .hid) eq d refl _ refl (past-on _ refl refl tt) (plain-contents _ _ _ _ (roomy-as _ refl refl) own refl)))
+      (job p .hid) eq d refl _ refl (past-on _ refl refl tt) (plain-contents _ _ _ _ (roomy-as _ refl refl refl) own refl)))
       (λ _. rests _ refl refl refl refl own (past-on _ refl refl tt))
 
   -- The item that p stands before keeps the layer, and stores inside the arrays.
@@ -1138,7 +1191,7 @@ contents-called plan s g D p u off E =
     keeps-plain plan s D g E p (s .sh .ann) (s .sh .stat) (s .sh .trans) (called u (s .job p)) refl
     (λ q. absurd (rw off at (q .past))) (λ _. refl) (λ _. refl) (λ _. refl) (λ q x e. (e, refl)) (λ q x e. e)
     (record {
-      roomy = roomy-same (s .job p) _ refl refl (E .each p .roomy);
+      roomy = roomy-same (s .job p) _ refl refl refl (E .each p .roomy);
       own = rw off at (E .each p .own);
       fresh = λ _ _. tt;
     })

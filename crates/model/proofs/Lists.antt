@@ -22,7 +22,7 @@ use borrow.Author.Tests.{eqb-true, eq-eqb, ltb-true, ltb-false, lt-ltb, le-ltb, 
 use Rattle.text.proofs.Cases.{by-test, both, neither}
 use Rattle.format.specs.declared.Entry.{Entry}
 use Rattle.format.specs.Plan.{Plan}
-use Rattle.format.proofs.Tables.{getD-table}
+use Rattle.format.proofs.Tables.{length-table, getD-table}
 use Rattle.format.specs.Stored.{table}
 use Rattle.format.specs.Sound.{Sound}
 use Rattle.model.specs.declared.Place.{Place}
@@ -68,12 +68,14 @@ use Rattle.model.proofs.View.{
   changed,
   after,
 }
-use Rattle.model.proofs.Sizes.{numbers, Sized, Roomy, Fits}
+use Rattle.model.specs.StockRule.{blockNumbers}
+use Rattle.model.proofs.Sizes.{Sized, Roomy, Fits}
 use Rattle.model.proofs.Arrays.{
   getD-set,
   getD-set-below,
   getD-all,
   first-places,
+  length-first-places,
   paste-inside,
   word-stored,
   block-copied,
@@ -116,7 +118,7 @@ status-stored n l k x h =
 
 module _ (plan : Plan) (ok : Sound plan) where
   -- The store has room for the blocks of as many numbers as there are.
-  all-in-store : (n : ℕ) → n ≤ numbers plan → n * plan .sizes .words ≤ 2304
+  all-in-store : (n : ℕ) → n ≤ blockNumbers plan → n * plan .sizes .words ≤ 2304
   all-in-store n h =
       let copies : copyBlocks plan ≤ 16 * 8 = mul-le-mul (ok .jobs) (ok .copies) in
       let few : plan .sizes .blocks ≤ 16 = ok .blocks in
@@ -124,12 +126,12 @@ module _ (plan : Plan) (ok : Sound plan) where
       mul-le-mul below (ok .words)
 
   -- All words of a block that has a number are in the store.
-  pub in-store : (b : ℕ) → b < numbers plan → b * plan .sizes .words + plan .sizes .words ≤ 2304
+  pub in-store : (b : ℕ) → b < blockNumbers plan → b * plan .sizes .words + plan .sizes .words ≤ 2304
   in-store b h = omega (arith, all-in-store (suc b) h)
 
   -- One word of a block that has a number is in the store.
   pub word-in-store :
-      (b i : ℕ) → b < numbers plan → i < plan .sizes .words → b * plan .sizes .words + i < 2304
+      (b i : ℕ) → b < blockNumbers plan → i < plan .sizes .words → b * plan .sizes .words + i < 2304
   word-in-store b i h g = omega (arith, in-store b h)
 
   -- A job of the plan has a place in an array of 16.
@@ -147,7 +149,7 @@ module _ (plan : Plan) (ok : Sound plan) where
 
     -- What an item stores, and its job's next record, in the view.
     seen-stored :
-        (w : Working) (st : Store) → Fits plan st
+        (w : Working) (st : Store) → Fits plan w st
         → stateIn plan (stored plan p w st (withWork p w m))
         ≡ record { sh = changed plan p w st (stateIn plan m .sh); job = upd (stateIn plan m .job) p w }
     unfolding stateIn stored
@@ -241,20 +243,26 @@ module _ (plan : Plan) (ok : Sound plan) where
 
     -- What an item gave, carried out, is the same in the view.
     pub view-after :
-        (o : Out) → Fits plan (o .store) → stateIn plan (carriedOut plan p o m) ≡ after plan p o (stateIn plan m)
+        (o : Out) → Fits plan (o .work) (o .store) → stateIn plan (carriedOut plan p o m) ≡ after plan p o (stateIn plan m)
     unfolding carriedOut
     view-after o f = seen-stored (o .work) (o .store) f
 
--- Rows of 16 places stay so when a number is stored in one.
+-- Rows of 16 places stay so when one of them becomes another row of 16 places.
+row-kept :
+    (rows : List (List ℕ)) (k : ℕ) (row : List ℕ) → length rows ≡ 16 → k < 16 → length row ≡ 16
+    → ((j : ℕ) → j < 16 → length (getD rows j []) ≡ 16) → (j : ℕ) → j < 16
+    → length (getD (set rows k row) j []) ≡ 16
+row-kept rows k row e h same all j g =
+    ap (λ (f : ℕ → List ℕ). length (f j)) (getD-set rows k row [] (rw e h))
+    ∙ upd-elim (λ r. length r ≡ 16) (λ j. getD rows j []) k row j (λ _. same) (λ _. all j g)
+
+-- So it is when a number is stored in one.
 rows-kept :
     (rows : List (List ℕ)) (k i a : ℕ) → length rows ≡ 16 → k < 16
     → ((j : ℕ) → j < 16 → length (getD rows j []) ≡ 16) → (j : ℕ) → j < 16
     → length (getD (set rows k (set (getD rows k []) i a)) j []) ≡ 16
-rows-kept rows k i a e h all j g =
-    ap (λ (f : ℕ → List ℕ). length (f j)) (getD-set rows k (set (getD rows k []) i a) [] (rw e h))
-    ∙ upd-elim (λ r. length r ≡ 16) (λ j. getD rows j []) k (set (getD rows k []) i a) j
-    (λ _. length-set (getD rows k []) i a ∙ all k h)
-    (λ _. all j g)
+rows-kept rows k i a e h all =
+    row-kept rows k (set (getD rows k []) i a) e h (length-set (getD rows k []) i a ∙ all k h) all
 
 module _ (m : Machine) (sized : Sized m) where
   -- Lengths are kept by other cells of the same lengths.
@@ -275,6 +283,7 @@ module _ (m : Machine) (sized : Sized m) where
         newlists = sized .newlists;
         addrlist = sized .addrlist;
         oldlist = sized .oldlist;
+        newlist = sized .newlist;
       }
 
   -- Lengths are kept by another working record.
@@ -293,6 +302,7 @@ module _ (m : Machine) (sized : Sized m) where
         newlists = sized .newlists;
         addrlist = sized .addrlist;
         oldlist = sized .oldlist;
+        newlist = sized .newlist;
       }
 
   -- Lengths are kept by another store of the same length.
@@ -311,6 +321,7 @@ module _ (m : Machine) (sized : Sized m) where
         newlists = sized .newlists;
         addrlist = sized .addrlist;
         oldlist = sized .oldlist;
+        newlist = sized .newlist;
       }
 
   -- Lengths are kept by an address and an old number in a row.
@@ -329,11 +340,12 @@ module _ (m : Machine) (sized : Sized m) where
         newlists = sized .newlists;
         addrlist = rows-kept (m .addrlist) k i a (sized .addrlists) h (sized .addrlist);
         oldlist = rows-kept (m .oldlist) k i b (sized .oldlists) h (sized .oldlist);
+        newlist = sized .newlist;
       }
 
   -- Lengths are kept by new numbers in a row.
-  sized-new : (k : ℕ) (bs : List ℕ) → Sized (machine.withNew k bs m)
-  sized-new k bs =
+  sized-new : (k : ℕ) (bs : List ℕ) → k < 16 → length bs ≤ 16 → Sized (machine.withNew k bs m)
+  sized-new k bs h few =
       record {
         ann = sized .ann;
         stat = sized .stat;
@@ -347,12 +359,16 @@ module _ (m : Machine) (sized : Sized m) where
         newlists = length-set (m .newlist) k (inFirstPlaces bs (getD (m .newlist) k [])) ∙ sized .newlists;
         addrlist = sized .addrlist;
         oldlist = sized .oldlist;
+        newlist =
+            row-kept (m .newlist) k (inFirstPlaces bs (getD (m .newlist) k [])) (sized .newlists) h
+            (length-first-places bs (getD (m .newlist) k []) (rw (sized .newlist k h) few) ∙ sized .newlist k h)
+            (sized .newlist);
       }
 
 module _ (plan : Plan) (ok : Sound plan) where
   -- Lengths are kept by a store.
   sized-stored :
-      (m : Machine) → Sized m → (p : ℕ) → p < plan .sizes .jobs → (w : Working) (st : Store) → Fits plan st
+      (m : Machine) → Sized m → (p : ℕ) → p < plan .sizes .jobs → (w : Working) (st : Store) → Fits plan w st
       → Sized (stored plan p w st m)
   unfolding stored
   sized-stored m sized p below w Store.Nothing f = sized
@@ -381,7 +397,7 @@ module _ (plan : Plan) (ok : Sound plan) where
   sized-stored m sized p below w (Store.Word b i x) f =
       sized-store m sized _ (length-set (m .store) (b * plan .sizes .words + i) x ∙ sized .store)
   sized-stored m sized p below w Store.Published f =
-      sized-cells (machine.withNew p (newNumbers m p w) m) (sized-new m sized p (newNumbers m p w)) _ (sized .ann)
+      sized-cells (machine.withNew p (newNumbers m p w) m) (sized-new m sized p (newNumbers m p w) (in-array plan ok p below) (rw (length-table (w .numblks) (λ i. getD (w .curr) (inRow (m .addrlist) p i) 0)) f)) _ (sized .ann)
       (sized .stat)
       (sized .trans)
       (sized .bank)
@@ -392,7 +408,7 @@ module _ (plan : Plan) (ok : Sound plan) where
 
   -- Lengths are kept by what an item gave.
   pub sized-after :
-      (m : Machine) → Sized m → (p : ℕ) → p < plan .sizes .jobs → (o : Out) → Fits plan (o .store)
+      (m : Machine) → Sized m → (p : ℕ) → p < plan .sizes .jobs → (o : Out) → Fits plan (o .work) (o .store)
       → Sized (carriedOut plan p o m)
   unfolding carriedOut
   sized-after m sized p below o f =
@@ -401,7 +417,7 @@ module _ (plan : Plan) (ok : Sound plan) where
 module _ (plan : Plan) (m : Machine) (sized : Sized m) (p : ℕ) where
   -- Statuses stay proper by a store.
   proper-stored :
-      (w : Working) (st : Store) → Fits plan st → ((k : ℕ) → Proper (sharedIn plan m .stat k)) → (k : ℕ)
+      (w : Working) (st : Store) → Fits plan w st → ((k : ℕ) → Proper (sharedIn plan m .stat k)) → (k : ℕ)
       → Proper (sharedIn plan (stored plan p w st (withWork p w m)) .stat k)
   unfolding stored
   proper-stored w Store.Nothing f all = all
@@ -421,7 +437,7 @@ module _ (plan : Plan) (m : Machine) (sized : Sized m) (p : ℕ) where
 
   -- Statuses stay proper by what an item gave.
   pub proper-after :
-      (o : Out) → Fits plan (o .store) → ((k : ℕ) → Proper (sharedIn plan m .stat k)) → (k : ℕ)
+      (o : Out) → Fits plan (o .work) (o .store) → ((k : ℕ) → Proper (sharedIn plan m .stat k)) → (k : ℕ)
       → Proper (sharedIn plan (carriedOut plan p o m) .stat k)
   unfolding carriedOut
   proper-after o f all = proper-stored (o .work) (o .store) f all
@@ -685,7 +701,7 @@ proper-opening plan k = rw (getD-all 17 k (pos (plan .sizes .jobs))) tt
 module _ (plan : Plan) (ok : Sound plan) where
   -- The copy blocks and the plan's words fill no more than the store.
   opening-fits : copyBlocks plan * plan .sizes .words + length (plan .words) ≤ 2304
-  opening-fits = omega (arith, all-in-store plan ok (numbers plan) (le-refl (numbers plan)), ok .all-words)
+  opening-fits = omega (arith, all-in-store plan ok (blockNumbers plan) (le-refl (blockNumbers plan)), ok .all-words)
 
   -- A store of n numbers keeps its length when the plan's words are put in.
   opening-store :
@@ -730,12 +746,14 @@ module _ (plan : Plan) (ok : Sound plan) where
         newlists = refl;
         addrlist = λ k h. ap length (getD-replicate 16 k (replicate 16 0) [] h);
         oldlist = λ k h. ap length (getD-replicate 16 k (replicate 16 0) [] h);
+        newlist = λ k h. ap length (getD-replicate 16 k (replicate 16 0) [] h);
       }
 
   -- A job's record at the opening: the copy list of a job that the plan has, or of one that it does not have.
   record JobOpened (k : ℕ) (w : Working) : Type 0 where
     copy : List ℕ
     opens : w ≡ opening copy
+    eight : length copy ≡ 8
     own : (i : ℕ) → k < plan .sizes .jobs → i < plan .sizes .copies → getD copy i 0 ≡ k * plan .sizes .copies + i
     far :
         (i : ℕ) → plan .sizes .jobs ≤ k → i < plan .sizes .copies
@@ -750,6 +768,7 @@ module _ (plan : Plan) (ok : Sound plan) where
       go (yes h) =
           record {
             copy = table 8 (λ i. k * plan .sizes .copies + i);
+            eight = refl;
             opens =
                 job-seen plan (openingOf plan) k h
                 ∙ getD-table 16 (λ q. opening (table 8 (λ i. q * plan .sizes .copies + i))) noWork k
@@ -759,18 +778,14 @@ module _ (plan : Plan) (ok : Sound plan) where
           }
       go (no h) =
           record {
-            copy =
-                table (plan .sizes .copies)
-                (λ i. copyBlocks plan + plan .sizes .blocks + (k * plan .sizes .copies + i));
+            copy = table 8 (λ i. copyBlocks plan + plan .sizes .blocks + (k * plan .sizes .copies + i));
+            eight = refl;
             opens = job-absent plan (openingOf plan) k (omega arith);
             own = λ i n _. absurd (omega arith);
             far =
                 λ i _ l.
-                getD-table (plan .sizes .copies)
-                (λ i. copyBlocks plan + plan .sizes .blocks + (k * plan .sizes .copies + i))
-                0
-                i
-                l;
+                getD-table 8 (λ i. copyBlocks plan + plan .sizes .blocks + (k * plan .sizes .copies + i)) 0 i
+                (omega (arith, ok .copies));
           }
 
   -- The opening is as Opened says.
@@ -793,6 +808,7 @@ module _ (plan : Plan) (ok : Sound plan) where
             record {
               dirty = ap (λ (w : Working). length (w .dirty)) (job-opened k .opens);
               curr = ap (λ (w : Working). length (w .curr)) (job-opened k .opens);
+              copy = ap (λ (w : Working). length (w .copy)) (job-opened k .opens) ∙ job-opened k .eight;
             };
         unmarked = λ k b. ap (λ (w : Working). getD (w .dirty) b 0) (job-opened k .opens) ∙ getD-all 16 b 0;
         copies =

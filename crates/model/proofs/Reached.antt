@@ -224,7 +224,7 @@ module _ (plan : Plan) (ok : Sound plan) where
       running = record { up = a .active; top = a .highest }
 
       -- Its store stays inside the arrays.
-      fits : Fits plan (o .store)
+      fits : Fits plan (o .work) (o .store)
       unfolding stateIn
       fits =
           contents-kept plan ok (sharedIn plan m) job (L .cards) (L .epochs) (L .memory) (L .contents) p running

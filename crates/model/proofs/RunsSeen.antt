@@ -15,7 +15,7 @@ use mathlib.Core.List.{List, [], _∷_, _++_, map, map-append, append-assoc}
 use native.Mathlib.Omega.{arith}
 use native.Mathlib.Numerals.{add-one}
 use lib.Dec.{eqb}
-use lib.ListN.{length, getD, set, drop, length-set, drop-of-length-le}
+use lib.ListN.{length, getD, set, drop, length-set, drop-of-length-le, length-map}
 use lib.Seq.{drop-cons, drop-nil}
 use borrow.Author.Tests.{ltb-true, ltb-false}
 use Rattle.text.proofs.Cases.{by-test}
@@ -329,23 +329,32 @@ attempt-begun P os addr u w c can enough =
       enough = enough;
     }
 
--- Where marks and numbers are the same lists, the lengths are kept.
-pub roomy-same : (w x : Working) → x .dirty ≡ w .dirty → x .curr ≡ w .curr → Roomy w → Roomy x
-roomy-same w x d c R = record { dirty = rw d (R .dirty); curr = rw c (R .curr) }
+-- Where marks, numbers and the copy list are the same lists, the lengths are kept.
+pub roomy-same :
+    (w x : Working) → x .dirty ≡ w .dirty → x .curr ≡ w .curr → x .copy ≡ w .copy → Roomy w → Roomy x
+roomy-same w x d c e R = record { dirty = rw d (R .dirty); curr = rw c (R .curr); copy = rw e (R .copy) }
 
 -- Listing a block keeps the lengths.
 pub roomy-listing : (k b : ℕ) (w : Working) → Roomy w → Roomy (listing k b w)
 roomy-listing k b w R =
-    record { dirty = length-set (w .dirty) k 1 ∙ R .dirty; curr = length-set (w .curr) k b ∙ R .curr }
+    record {
+      dirty = length-set (w .dirty) k 1 ∙ R .dirty;
+      curr = length-set (w .curr) k b ∙ R .curr;
+      copy = R .copy;
+    }
 
 -- Copying a block keeps the lengths.
 pub roomy-copying : (k b : ℕ) (w : Working) → Roomy w → Roomy (copying k b w)
 roomy-copying k b w R =
-    record { dirty = length-set (w .dirty) k 2 ∙ R .dirty; curr = length-set (w .curr) k b ∙ R .curr }
+    record {
+      dirty = length-set (w .dirty) k 2 ∙ R .dirty;
+      curr = length-set (w .curr) k b ∙ R .curr;
+      copy = R .copy;
+    }
 
 -- Clearing the marks keeps the lengths.
 pub roomy-cleared : (w : Working) → Roomy w → Roomy (cleared w)
-roomy-cleared w R = record { dirty = refl; curr = R .curr }
+roomy-cleared w R = record { dirty = refl; curr = R .curr; copy = R .copy }
 
 -- When the marks are cleared, no block is marked.
 pub clear-cleared : (w : Working) → Clear (cleared w)
@@ -386,6 +395,15 @@ first-places-at (n ∷ ns) [] (suc i) =
 first-places-at (n ∷ ns) (x ∷ list) (suc i) = first-places-at ns list i
 
 -- The copy list of H25, where the row's old numbers are the bank's: in its first places the bank's numbers of the
+-- As many numbers are replaced as listed blocks are written.
+pub length-replaced :
+    (addr old : ℕ → ℕ) (bank : ℕ → ℕ) (w : Working) → ((i : ℕ) → i < w .numblks → old i ≡ bank (addr i))
+    → length (replaced addr old (w .dirty) (w .numblks))
+    ≡ length (select (attempt [] addr w .wrote) (attempt [] addr w .order))
+length-replaced addr old bank w h =
+    ap length (replaced-is addr old bank (w .dirty) (w .numblks) h)
+    ∙ length-map (select (attempt [] addr w .wrote) (attempt [] addr w .order)) bank
+
 -- written blocks, in listing order.
 pub copy-reclaimed :
     (addr old : ℕ → ℕ) (bank : ℕ → ℕ) (w : Working) → ((i : ℕ) → i < w .numblks → old i ≡ bank (addr i)) → (i : ℕ)

@@ -1,18 +1,15 @@
 -- The lengths of the machine's arrays, and which stores stay inside them: what it takes for the list machine to do
 -- what the view by functions says. Assumes nothing.
-use Prim.Native.Nat.{ℕ, _+_, _<_}
+use Prim.Native.Nat.{ℕ, _≤_, _<_}
 use mathlib.Core.Path.{_≡_}
 use mathlib.Core.List.{[]}
 use lib.ListN.{length, getD}
 use Rattle.format.specs.Plan.{Plan}
 use Rattle.model.specs.declared.Working.{Working}
 use Rattle.model.specs.declared.Store.{Store}
-use Rattle.model.specs.Machine.{Machine, copyBlocks}
+use Rattle.model.specs.Machine.{Machine}
+use Rattle.model.specs.StockRule.{blockNumbers}
 use Rattle.model.proofs.View.{Proper}
-
--- How many block numbers there are: B + NC.
-abbrev pub numbers : Plan → ℕ
-numbers plan = copyBlocks plan + plan .sizes .blocks
 
 -- Every array of a machine has its length.
 pub record Sized (m : Machine) : Type 0 where
@@ -28,21 +25,23 @@ pub record Sized (m : Machine) : Type 0 where
   pub newlists : length (m .newlist) ≡ 16
   pub addrlist : (k : ℕ) → k < 16 → length (getD (m .addrlist) k []) ≡ 16
   pub oldlist : (k : ℕ) → k < 16 → length (getD (m .oldlist) k []) ≡ 16
+  pub newlist : (k : ℕ) → k < 16 → length (getD (m .newlist) k []) ≡ 16
 
 -- Every array of a working record has its length.
 pub record Roomy (w : Working) : Type 0 where
   pub dirty : length (w .dirty) ≡ 16
   pub curr : length (w .curr) ≡ 16
+  pub copy : length (w .copy) ≡ 8
 
--- A store stays inside the arrays, and statuses stay proper.
-abbrev pub Fits : Plan → Store → Type 0
-Fits plan Store.Nothing = Unit {0}
-Fits plan (Store.Version n f) = Unit {0}
-Fits plan (Store.Ann r k) = r < 8
-Fits plan (Store.Stat k x) = (k < 17) × Proper x
-Fits plan (Store.Trans k u) = k < 16
-Fits plan (Store.Listed i a b) = i < 16
-Fits plan (Store.Block from to) = (from < numbers plan) × (to < numbers plan)
-Fits plan (Store.Word b i x) = (b < numbers plan) × (i < plan .sizes .words)
-Fits plan Store.Published = Unit {0}
-Fits plan (Store.Bank b n) = b < 16
+-- A store of a job whose record is w stays inside the arrays, and statuses stay proper.
+abbrev pub Fits : Plan → Working → Store → Type 0
+Fits plan w Store.Nothing = Unit {0}
+Fits plan w (Store.Version n f) = Unit {0}
+Fits plan w (Store.Ann r k) = r < 8
+Fits plan w (Store.Stat k x) = (k < 17) × Proper x
+Fits plan w (Store.Trans k u) = k < 16
+Fits plan w (Store.Listed i a b) = i < 16
+Fits plan w (Store.Block from to) = (from < blockNumbers plan) × (to < blockNumbers plan)
+Fits plan w (Store.Word b i x) = (b < blockNumbers plan) × (i < plan .sizes .words)
+Fits plan w Store.Published = w .numblks ≤ 16
+Fits plan w (Store.Bank b n) = b < 16

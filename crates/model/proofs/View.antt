@@ -88,7 +88,7 @@ showing plan s =
 abbrev pub absent : Plan → ℕ → Working
 absent plan k =
     opening
-    (table (plan .sizes .copies)
+    (table 8
     (λ i. copyBlocks plan + plan .sizes .blocks + (k * plan .sizes .copies + i)))
 
 -- The state of a machine.
