@@ -7,7 +7,7 @@ use Prim.Native.Nat.{ℕ, zero, suc, _+_, _*_, _-_, _≤_, _<_}
 use mathlib.Core.Path.{_≡_, refl, sym, _∙_, ap, fun-ext}
 use mathlib.Core.Logic.{_≢_, _⊎_, inl, inr}
 use mathlib.Core.Bool.{true, false, cond}
-use mathlib.Core.List.{List, _++_}
+use mathlib.Core.List.{List, _++_, [], _∷_}
 use native.Mathlib.Nat.{mul-le-mul-right}
 use native.Mathlib.Decide.{decLt}
 use native.Mathlib.Omega.{arith}
@@ -59,6 +59,12 @@ pub getD-all {ℓ} : {A : Type ℓ} (n k : ℕ) (a : A) → getD (replicate n a)
 getD-all zero k a = refl
 getD-all (suc n) zero a = refl
 getD-all (suc n) (suc k) a = getD-all n k a
+
+-- What stands at a place that a list has does not depend on what is read past its end.
+pub getD-any {ℓ} : {A : Type ℓ} (l : List A) (i : ℕ) (d e : A) → i < length l → getD l i d ≡ getD l i e
+getD-any [] i d e h = absurd (omega arith)
+getD-any (x ∷ l) zero d e h = refl
+getD-any (x ∷ l) (suc i) d e h = getD-any l i d e (omega arith)
 
 -- Numbers that take the first places of a list leave its length, where it has so many.
 pub length-first-places :

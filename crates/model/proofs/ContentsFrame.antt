@@ -23,6 +23,7 @@ use Rattle.model.specs.declared.Working.{Working}
 use Rattle.model.proofs.Update.{upd, upd-same, upd-other, upd-at, upd-elim, upd-map, upd-id, upd-ap}
 use Rattle.model.proofs.View.{
   Status,
+  undecided,
   decided,
   finished,
   isUndecided,
@@ -34,11 +35,12 @@ use Rattle.model.proofs.View.{
   withBlocks,
   withBank,
   decided≢finished,
+  undecided≢decided,
   decider-same,
 }
 use Rattle.format.proofs.Tables.{length-table, getD-table}
 use Rattle.model.proofs.SmallSteps.{Op, exec, Attempt, attempt, copyOf, Layout, layout}
-use Rattle.model.proofs.Attempts.{seen, Stock, settledBank, Live}
+use Rattle.model.proofs.Attempts.{seen, stock, Stock, settledBank, Live}
 use Rattle.model.proofs.Running.{seen-ext, live-other}
 use Rattle.model.proofs.Settling.{
   listed-at,
@@ -49,9 +51,11 @@ use Rattle.model.proofs.Settling.{
   skipped,
   commits,
   settling-other,
+  bank-known,
   reclaims,
   decides,
 }
+use Rattle.model.proofs.Cards.{CardsHold}
 use Rattle.model.proofs.Epochs.{EpochsHold, winnerOf}
 use Rattle.model.proofs.Contents.{
   Ghost,
@@ -744,3 +748,48 @@ module _ (plan : Plan) (s : State) (D : EpochsHold (layout plan) s) (g : Ghost) 
       where
         later : (x : Version) → x .count ≤ v .count → x ≡ v′ → ⊥
         later x le e = let z : x .count ≡ v′ .count = ap (λ y. y .count) e in omega arith
+
+-- Where block numbers stand, whatever is decided.
+module _ (plan : Plan) (s : State) (C : CardsHold (layout plan) s) (D : EpochsHold (layout plan) s) (g : Ghost)
+    (E : ContentsHold plan s g) where
+  -- The chief.
+  abbrev leader : ℕ
+  leader = head plan (s .sh) g (s .job)
+
+  -- Is any update decided? Then it is the chief's.
+  decided-now :
+      ((q w : ℕ) → s .sh .stat q ≢ decided w) ⊎ ((w : ℕ) × (s .sh .stat leader ≡ decided w))
+  decided-now = go (s .sh .stat leader) refl
+    where
+      go :
+          (x : Status) → s .sh .stat leader ≡ x
+          → ((q w : ℕ) → s .sh .stat q ≢ decided w) ⊎ ((w : ℕ) × (s .sh .stat leader ≡ decided w))
+      go (decided w) e = inr (w, e)
+      go undecided e =
+          inl (λ q w d. undecided≢decided e (ap (s .sh .stat) (sym (D .whole .one q w d .1)) ∙ d))
+      go finished e =
+          inl (λ q w d. decided≢finished (ap (s .sh .stat) (sym (D .whole .one q w d .1)) ∙ d) e)
+
+  -- The bank names block numbers, always.
+  pub bank-numbers : (k : ℕ) → k < plan .sizes .blocks → s .sh .bank k < stock (layout plan)
+  bank-numbers k hk = go decided-now
+    where
+      go :
+          ((q w : ℕ) → s .sh .stat q ≢ decided w) ⊎ ((w : ℕ) × (s .sh .stat leader ≡ decided w))
+          → s .sh .bank k < stock (layout plan)
+      go (inl n) = E .whole .calm n .1 .bank-in k hk
+      go (inr d) =
+          let Z = E .whole .settled leader (d .0) (d .1) in
+          bank-known (layout plan) (Z .settling) (Z .stocked) (C .whole .in-plan (d .0) (Z .past .up)) k hk
+
+  -- And so do the copy lists.
+  pub copy-numbers :
+      (q : ℕ) → q < plan .sizes .jobs → (i : ℕ) → i < plan .sizes .copies
+      → copyOf (s .job q) i < stock (layout plan)
+  copy-numbers q hq i hi = go decided-now
+    where
+      go :
+          ((q w : ℕ) → s .sh .stat q ≢ decided w) ⊎ ((w : ℕ) × (s .sh .stat leader ≡ decided w))
+          → copyOf (s .job q) i < stock (layout plan)
+      go (inl n) = E .whole .calm n .1 .copy-in q i hq hi
+      go (inr d) = E .whole .settled leader (d .0) (d .1) .stocked .copy-in q i hq hi

@@ -10,7 +10,7 @@
 -- Assumes the first two layers, and a sound plan.
 use Prim.Native.Nat.{ℕ, _+_, _≤_, _<_, _%_}
 use mathlib.Core.Path.{_≡_, refl, sym, _∙_, ap, subst, fun-ext}
-use mathlib.Core.Logic.{_≢_, _⊎_, inl, inr}
+use mathlib.Core.Logic.{_≢_, inl}
 use mathlib.Core.Bool.{Bool, true, false, not, true≢false, false≢true}
 use mathlib.Core.List.{List, [], _∷_}
 use native.Mathlib.Omega.{arith}
@@ -91,7 +91,7 @@ use Rattle.model.proofs.SmallSteps.{
   Layout,
   layout,
 }
-use Rattle.model.proofs.Attempts.{current, passed, took, lists, copies, seen, stock, Shape, Own, Live}
+use Rattle.model.proofs.Attempts.{current, passed, took, lists, copies, seen, Shape, Own, Live}
 use Rattle.model.proofs.Running.{
   own-check,
   own-listed,
@@ -111,7 +111,7 @@ use Rattle.model.proofs.Running.{
   live-copy,
   live-write,
 }
-use Rattle.model.proofs.Settling.{listed-at, reclaim, bank-known}
+use Rattle.model.proofs.Settling.{listed-at, reclaim}
 use Rattle.model.proofs.Pigeonhole.{at-most, fewer}
 use Rattle.model.proofs.Arrays.{length-first-places}
 use Rattle.model.proofs.Words.{word-free, shape-fits, room-fits}
@@ -192,6 +192,8 @@ use Rattle.model.proofs.ContentsFrame.{
   keeps-commit,
   keeps-decide,
   keeps-turn,
+  bank-numbers,
+  copy-numbers,
 }
 
 -- What is neither −1 nor N is decided by the job that it names.
@@ -275,35 +277,6 @@ module _ (plan : Plan) (ok : Sound plan) (sh : Shared) (job : ℕ → Working)
       (w : Working) → w .ver ≡ job p .ver → isActive (w .place) ≡ true → PastKind (kind (w .place)) → Past v (job p)
       → Past v w
   past-on w e a k q = record { up = a; fresh = e ∙ q .fresh; past = k }
-
-  -- Is any update decided? Then it is the chief's.
-  decided-now : ((q w : ℕ) → stat q ≢ decided w) ⊎ ((w : ℕ) × (stat h ≡ decided w))
-  decided-now = go (stat h) refl
-    where
-      go : (x : Status) → stat h ≡ x → ((q w : ℕ) → stat q ≢ decided w) ⊎ ((w : ℕ) × (stat h ≡ decided w))
-      go (decided w) e = inr (w, e)
-      go undecided e =
-          inl
-          (λ q w d. false≢true (sym (ap isUndecided (ap stat (sym (D .whole .one q w d .1)) ∙ d)) ∙ ap isUndecided e))
-      go finished e = inl (λ q w d. decided≢finished (ap stat (sym (D .whole .one q w d .1)) ∙ d) e)
-
-  -- The bank names block numbers, always.
-  bank-numbers : (k : ℕ) → k < P .blocks → sh .bank k < stock P
-  bank-numbers k hk = go decided-now
-    where
-      go : ((q w : ℕ) → stat q ≢ decided w) ⊎ ((w : ℕ) × (stat h ≡ decided w)) → sh .bank k < stock P
-      go (inl n) = E .whole .calm n .1 .bank-in k hk
-      go (inr d) =
-          let Z = E .whole .settled h (d .0) (d .1) in
-          bank-known P (Z .settling) (Z .stocked) (C .whole .in-plan (d .0) (Z .past .up)) k hk
-
-  -- And so do the copy lists.
-  copy-numbers : (i : ℕ) → i < P .copies → copyOf (job p) i < stock P
-  copy-numbers i hi = go decided-now
-    where
-      go : ((q w : ℕ) → stat q ≢ decided w) ⊎ ((w : ℕ) × (stat h ≡ decided w)) → copyOf (job p) i < stock P
-      go (inl n) = E .whole .calm n .1 .copy-in p i p<N hi
-      go (inr d) = E .whole .settled h (d .0) (d .1) .stocked .copy-in p i p<N hi
 
   -- p has just begun its call: it is not the chief, and it is not decided.
   module _ (ep : phase (job p) ≡ start) (fp : isFinished (stat p) ≡ true) where
@@ -559,7 +532,7 @@ module _ (plan : Plan) (ok : Sound plan) (sh : Shared) (job : ℕ → Working)
                       inside-same plan (job p) j refl refl refl st (afterList (access plan (job p))) I
                           (after-list (access plan (job p))),
                       subst (Own P (copyOf (job p))) (sym listed-run)
-                          (own-list P o b e not-listed (bank-numbers k in-blocks)),
+                          (own-list P o b e not-listed (bank-numbers plan s C D g E k in-blocks)),
                     );
                     fresh =
                         λ z f u. let l = L z f u in (
@@ -614,18 +587,18 @@ module _ (plan : Plan) (ok : Sound plan) (sh : Shared) (job : ℕ → Working)
                         inside-same plan (job p) jc refl refl refl st Stage.Write I so,
                         subst
                             (Own P (copyOf (job p))) (sym copied-run)
-                            (own-copy P o e first-write (copy-numbers (job p .dirtycnt) has-room)),
+                            (own-copy P o e first-write (copy-numbers plan s C D g E p p<N (job p .dirtycnt) has-room)),
                       );
                       fresh =
                           λ z f u. let l = L z f u in (
                             subst (Live P (P .ops (sh .trans h)) (g .mem) (sh .bank)
                                 (upd blk c (blk (getD (job p .curr) k 0))) (copyOf (job p))) (sym copied-run)
                                 (live-copy P (stock-now plan s D g E p u) p (l .0) e first-write
-                                (copy-numbers (job p .dirtycnt) has-room)),
+                                (copy-numbers plan s C D g E p p<N (job p .dirtycnt) has-room)),
                             l .1,
                           );
                     });
-                fits = (o .in-stock k (copy-shape .1), copy-numbers (job p .dirtycnt) has-room);
+                fits = (o .in-stock k (copy-shape .1), copy-numbers plan s C D g E p p<N (job p .dirtycnt) has-room);
               }
 
       -- Taking a word.
@@ -820,8 +793,7 @@ module _ (plan : Plan) (ok : Sound plan) (sh : Shared) (job : ℕ → Working)
             × Olds plan sh₂ g (upd job p w) p w
             × Published plan sh₂ g (upd job p w) p w
         ready z f u =
-            let l = L z f u in
-            (
+            let l = L z f u in (
               subst (λ l. Live P (P .ops (sh .trans h)) (g .mem) (sh .bank) blk (λ i. getD l i 0) (attempt [] addr w))
                   (sym cp)
                   (subst (Live P (P .ops (sh .trans h)) (g .mem) (sh .bank) blk (copyOf (job p))) (sym same) (l .0)),
@@ -1041,13 +1013,14 @@ module _ (plan : Plan) (ok : Sound plan) (sh : Shared) (job : ℕ → Working)
   reclaims-copies L O = (
     fun-ext (λ i. copy-reclaimed (sh .addrlist p) (sh .oldlist p) (sh .bank) (job p) O i),
     length-first-places (replaced (sh .addrlist p) (sh .oldlist p) (job p .dirty) (job p .numblks)) (job p .copy)
-        (omega
-        (arith,
-        length-replaced (sh .addrlist p) (sh .oldlist p) (sh .bank) (job p) O,
-        L .count,
-        L .own .room,
-        E .each p .roomy .copy,
-        ok .copies))
+        (omega (
+          arith,
+          length-replaced (sh .addrlist p) (sh .oldlist p) (sh .bank) (job p) O,
+          L .count,
+          L .own .room,
+          E .each p .roomy .copy,
+          ok .copies,
+        ))
         ∙ E .each p .roomy .copy,
   )
 

@@ -7,7 +7,7 @@
 -- each entry up to the first refused one, that one included.
 --
 -- The length of the list is not used: the theorem holds of longer lists than a schedule can have.
-use Prim.Native.Nat.{ℕ}
+use Prim.Native.Nat.{ℕ, _<_}
 use mathlib.Core.Path.{_≡_}
 use mathlib.Core.Bool.{false}
 use mathlib.Core.List.{List, map}
@@ -20,10 +20,13 @@ use Rattle.format.specs.Reading.{reading, accepted}
 use Rattle.format.proofs.Sound.{accepted-sound}
 use Rattle.model.specs.History.{runOf}
 use Rattle.model.specs.Demand3.{isOpen, Holds, Demand3}
-use Rattle.model.specs.StockRule.{StockRule}
-use Rattle.model.proofs.Reached.{Layers, always}
+use Rattle.model.specs.StockRule.{blockNumbers, bankNumber, StockRule}
+use Rattle.model.proofs.View.{stateIn}
+use Rattle.model.proofs.Sizes.{Sized}
+use Rattle.model.proofs.ContentsFrame.{bank-numbers}
+use Rattle.model.proofs.Reached.{Layers, Inv, always}
 use Rattle.model.proofs.Answer.{holds-of}
-use Rattle.model.proofs.StockRule.{stock-when-none-open}
+use Rattle.model.proofs.StockRule.{bank-seen, stock-when-none-open}
 
 -- After any entries, what demand 3 says of a run holds.
 holds-after : (plan : Plan) → Sound plan → (es : List Entry) → Holds plan es (runOf plan es)
@@ -53,6 +56,25 @@ pub stock-rule :
     → reading form text ≡ accepted plan listed lines → (es : List Entry)
     → ((c : ℕ) → isOpen (runOf plan es .history) c ≡ false) → StockRule plan (runOf plan es .machine)
 stock-rule form text plan listed lines read es none =
-    let l : Layers plan es _ _ = always plan (accepted-sound form text plan listed lines read) es .layers in
-    stock-when-none-open plan es (runOf plan es) (l .memory) (l .counts) (l .cards) (l .epochs) (l .contents) (l .told)
-    none
+    let ok : Sound plan = accepted-sound form text plan listed lines read in
+    let inv : Inv plan es (runOf plan es) = always plan ok es in
+    let l : Layers plan es _ _ = inv .layers in
+    stock-when-none-open plan ok es (runOf plan es) (inv .sized) (l .memory) (l .counts) (l .cards) (l .epochs)
+    (l .contents) (l .told) none
+
+-- After any entries, decided or not: every array of the machine has its length, and the bank names a block number for
+-- every block. So what is seen through the bank is always words of the store.
+pub arrays-kept :
+    (form : Form) (text : List ℕ) (plan : Plan) (listed : List Listed) (lines : ℕ)
+    → reading form text ≡ accepted plan listed lines → (es : List Entry)
+    → Sized (runOf plan es .machine)
+    × ((k : ℕ) → k < plan .sizes .blocks → bankNumber plan (runOf plan es .machine) k < blockNumbers plan)
+arrays-kept form text plan listed lines read es =
+    let ok : Sound plan = accepted-sound form text plan listed lines read in
+    let inv : Inv plan es (runOf plan es) = always plan ok es in
+    let l : Layers plan es _ _ = inv .layers in (
+      inv .sized,
+      λ k h.
+          rw (← bank-seen plan ok (runOf plan es .machine) (inv .sized) k h)
+          (bank-numbers plan (stateIn plan (runOf plan es .machine)) (l .cards) (l .epochs) (l .memory) (l .contents) k h),
+    )
