@@ -5,6 +5,7 @@ use Prim.Native.Nat.{ℕ, _/_}
 use mathlib.Core.Bool.{Bool, false, cond, _||_}
 use mathlib.Core.List.{List, [], _∷_, _++_}
 use lib.Dec.{eqb}
+use lib.ListN.{getD}
 use Rattle.format.specs.declared.Sizes.{Sizes}
 use Rattle.format.specs.declared.Job.{Job}
 use Rattle.format.specs.declared.Move.{Move}
@@ -16,6 +17,10 @@ pub record Plan : Type 0 where
   pub jobs : List Job
   pub words : List ℕ
   pub updates : List (List Move)
+
+-- Job k's card and priority.
+abbrev pub jobIn : Plan → ℕ → Job
+jobIn plan k = getD (plan .jobs) k (record { card = 0; priority = 0 })
 
 -- An entry of a schedule with the line that it stands in; its number is its place in the list, from 1.
 pub record Listed : Type 0 where

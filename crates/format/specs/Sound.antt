@@ -5,14 +5,9 @@ use mathlib.Core.Path.{_≡_}
 use mathlib.Core.Bool.{false}
 use mathlib.Core.List.{[]}
 use lib.ListN.{length, getD}
-use Rattle.format.specs.declared.Job.{Job}
 use Rattle.format.specs.declared.Move.{Move}
-use Rattle.format.specs.Plan.{Plan, named, written}
+use Rattle.format.specs.Plan.{Plan, jobIn, named, written}
 use Rattle.format.specs.Faults.{someFrom}
-
--- Job k.
-abbrev pub jobAt : Plan → ℕ → Job
-jobAt plan k = getD (plan .jobs) k (record { card = 0; priority = 0 })
 
 -- What acceptance says of a plan: every number is in its range, every list has its exact length.
 pub record Sound (plan : Plan) : Type 0 where
@@ -28,11 +23,11 @@ pub record Sound (plan : Plan) : Type 0 where
   pub copies : plan .sizes .copies ≤ 8
   -- N jobs, each on a card, no two of a card with one priority (7 and 8)
   pub all-jobs : length (plan .jobs) ≡ plan .sizes .jobs
-  pub on-card : (k : ℕ) → k < plan .sizes .jobs → jobAt plan k .card < plan .sizes .cards
-  pub low-priority : (k : ℕ) → k < plan .sizes .jobs → jobAt plan k .priority ≤ 255
+  pub on-card : (k : ℕ) → k < plan .sizes .jobs → jobIn plan k .card < plan .sizes .cards
+  pub low-priority : (k : ℕ) → k < plan .sizes .jobs → jobIn plan k .priority ≤ 255
   pub apart :
-      (a b : ℕ) → a < plan .sizes .jobs → b < plan .sizes .jobs → jobAt plan a .card ≡ jobAt plan b .card
-      → jobAt plan a .priority ≡ jobAt plan b .priority → a ≡ b
+      (a b : ℕ) → a < plan .sizes .jobs → b < plan .sizes .jobs → jobIn plan a .card ≡ jobIn plan b .card
+      → jobIn plan a .priority ≡ jobIn plan b .priority → a ≡ b
   -- B blocks of S words
   pub all-words : length (plan .words) ≡ plan .sizes .blocks * plan .sizes .words
   -- at most 32 updates of at most 16 moves (5), whose words are below B times S (9), each writing at most C blocks (10)

@@ -20,12 +20,11 @@ use lib.ListN.{length}
 use borrow.Author.Tests.{lt-ltb}
 use Rattle.text.proofs.Cases.{by-test}
 use Rattle.format.specs.declared.Entry.{Entry}
-use Rattle.format.specs.Plan.{Plan, any}
+use Rattle.format.specs.Plan.{Plan, any, jobIn}
 use Rattle.format.specs.Sound.{Sound}
 use Rattle.model.specs.Lists.{select}
 use Rattle.model.specs.Memory.{jobOf, updateOf, movesOf, afterUpdate}
 use Rattle.model.specs.Places.{isActive}
-use Rattle.model.specs.Steps.{jobIn}
 use Rattle.model.specs.Machine.{Machine, blockIn, seen}
 use Rattle.model.specs.History.{Event, announces, commits, returns, commitsIn, latest, Run}
 use Rattle.model.specs.Demand3.{isOpen, isStored, cardOf, passing, memoryAfter, Holds}

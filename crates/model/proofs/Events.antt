@@ -17,10 +17,9 @@ use native.Mathlib.Omega.{arith}
 use borrow.Author.Tests.{eqb-true}
 use Rattle.text.proofs.Cases.{by-test, neither}
 use Rattle.format.specs.declared.Entry.{Entry}
-use Rattle.format.specs.Plan.{Plan, any}
+use Rattle.format.specs.Plan.{Plan, any, jobIn}
 use Rattle.model.specs.Lists.{select, beforeFirst, afterFirst}
 use Rattle.model.specs.Memory.{Commit}
-use Rattle.model.specs.Steps.{jobIn}
 use Rattle.model.specs.Places.{label}
 use Rattle.model.specs.History.{Event, did, calls, announces, commits, isCommit, commitsIn, lastEntry, latest}
 use Rattle.model.specs.Demand3.{cardOf, passing}

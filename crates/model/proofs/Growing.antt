@@ -60,12 +60,6 @@ pub moves-before :
     → movesOf updates (es ++ (e ∷ [])) c ≡ movesOf updates es c
 moves-before updates es e c l h = ap (λ (u : ℕ). getD updates u []) (update-before es e c l h)
 
--- The moves of a call by the last entry are those of the update that it names.
-pub moves-last :
-    (updates : List (List Move)) (es : List Entry) (e : Entry) (c : ℕ) → c ≡ length es + 1
-    → movesOf updates (es ++ (e ∷ [])) c ≡ getD updates (e .second) []
-moves-last updates es e c h = ap (λ (u : ℕ). getD updates u []) (update-last es e c h)
-
 -- A commit at another entry is none of this entry.
 pub committed-other :
     (cs : List Commit) (c : Commit) (m : ℕ) → c .entry ≢ m → committedBy (cs ++ (c ∷ [])) m ≡ committedBy cs m

@@ -21,7 +21,7 @@ use lib.Seq.{paste, length-paste}
 use borrow.Author.Tests.{eqb-true, eq-eqb, ltb-true, ltb-false, lt-ltb, le-ltb, leb-false}
 use Rattle.text.proofs.Cases.{by-test, both, neither}
 use Rattle.format.specs.declared.Entry.{Entry}
-use Rattle.format.specs.Plan.{Plan}
+use Rattle.format.specs.Plan.{Plan, jobIn}
 use Rattle.format.proofs.Tables.{length-table, getD-table}
 use Rattle.format.specs.Stored.{table}
 use Rattle.format.specs.Sound.{Sound}
@@ -34,7 +34,7 @@ use Rattle.model.specs.declared.Refusal.{Refusal}
 use Rattle.model.specs.declared.Judgement.{Judgement}
 use Rattle.model.specs.Places.{isActive}
 use Rattle.model.specs.Working.{noWork, opening, called}
-use Rattle.model.specs.Steps.{jobIn, inFirstPlaces, item}
+use Rattle.model.specs.Steps.{inFirstPlaces, item}
 use Rattle.model.specs.Machine as machine
 use Rattle.model.specs.Machine.{
   Machine,

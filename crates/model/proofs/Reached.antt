@@ -21,18 +21,7 @@ use Rattle.model.specs.Places.{isActive}
 use Rattle.model.specs.Steps.{Shared, item}
 use Rattle.model.specs.Machine.{Machine, sharedIn, workOf, carriedOut, itemOf}
 use Rattle.model.specs.Entries.{judge, acted}
-use Rattle.model.specs.History.{
-  Event,
-  latest,
-  movesV,
-  callEvent,
-  Run,
-  unlessRefused,
-  begun,
-  judged,
-  entered,
-  runOf,
-}
+use Rattle.model.specs.History.{Event, callEvent, itemEvent, Run, unlessRefused, begun, judged, entered, runOf}
 use Rattle.model.proofs.View.{Proper, State, stateIn, after}
 use Rattle.model.proofs.Sizes.{Sized, Fits}
 use Rattle.model.proofs.Lists.{
@@ -201,20 +190,6 @@ module _ (plan : Plan) (ok : Sound plan) where
       abbrev o : Out
       o = item plan (sharedIn plan m) p (job p .place) (job p)
 
-      -- The event of the item, by the record w.
-      abbrev event : Working → Out → Event
-      event w o =
-          record {
-            entry = length h + 1;
-            job = p;
-            call = latest p h;
-            item = w .place;
-            helped = latest (w .hid) h;
-            block = w .addr;
-            done = o .done;
-            moved = movesV (o .store);
-          }
-
       -- What the plan gives of cards and priorities.
       acc : Accepted (layout plan)
       acc = accepted plan ok
@@ -231,7 +206,7 @@ module _ (plan : Plan) (ok : Sound plan) where
           .fits
 
       -- All layers after it.
-      layers-after : Layers plan more (h ++ (event (job p) o ∷ [])) (after plan p o (stateIn plan m))
+      layers-after : Layers plan more (h ++ (itemEvent h p (job p) o ∷ [])) (after plan p o (stateIn plan m))
       unfolding stateIn
       layers-after =
           record {
@@ -253,22 +228,22 @@ module _ (plan : Plan) (ok : Sound plan) where
       step-kept :
           Inv plan more (record {
             machine = acted plan m (Judgement.Runs p);
-            history = h ++ (event (workOf m p) (itemOf plan m p) ∷ []);
+            history = h ++ (itemEvent h p (workOf m p) (itemOf plan m p) ∷ []);
             refusal = none;
           })
       unfolding acted
       step-kept =
           subst (λ x. Inv plan more
-          (record { machine = carriedOut plan p x m; history = h ++ (event (workOf m p) x ∷ []); refusal = none }))
+          (record { machine = carriedOut plan p x m; history = h ++ (itemEvent h p (workOf m p) x ∷ []); refusal = none }))
           (sym (item-seen plan m p (a .has-job))) (subst (λ w. Inv plan more
-          (record { machine = carriedOut plan p o m; history = h ++ (event w o ∷ []); refusal = none }))
+          (record { machine = carriedOut plan p o m; history = h ++ (itemEvent h p w o ∷ []); refusal = none }))
           (job-seen plan m p (a .has-job)) (record {
             sized = sized-after plan ok m sized p (a .has-job) o fits;
             proper = proper-after plan m sized p o fits proper;
             layers =
-                subst (Layers plan more (h ++ (event (job p) o ∷ [])))
+                subst (Layers plan more (h ++ (itemEvent h p (job p) o ∷ [])))
                 (sym (view-after plan ok m sized p (a .has-job) o fits)) layers-after;
-            in-step = λ _. length-last h (event (job p) o) ∙ ap (λ n. n + 1) len ∙ sym (length-more es e);
+            in-step = λ _. length-last h (itemEvent h p (job p) o) ∙ ap (λ n. n + 1) len ∙ sym (length-more es e);
           }))
 
   -- One more entry.

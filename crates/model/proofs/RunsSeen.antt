@@ -42,13 +42,13 @@ use Rattle.model.specs.Moves.{
   offset,
   onward,
 }
-use Rattle.model.specs.Working.{goto, taking, withAccess, withWord, listing, copying, cleared}
+use Rattle.model.specs.Working.{goto, taking, withAccess, listing, copying, cleared}
 use Rattle.model.specs.Steps.{replaced, inFirstPlaces}
 use Rattle.model.proofs.Update.{upd, upd-same, upd-other, upd-id, upd-ap}
 use Rattle.model.proofs.Arrays.{getD-set, getD-all}
 use Rattle.model.proofs.Sizes.{Roomy}
 use Rattle.model.proofs.SmallSteps.{Op, ofStage, ofAccesses, ofMoves, ahead, attempt, copyOf, Layout, layout}
-use Rattle.model.proofs.Attempts.{passed, took, lists, copies, Shape, newCopies}
+use Rattle.model.proofs.Attempts.{lists, copies, Shape, newCopies}
 use Rattle.model.proofs.Running.{Begun}
 use Rattle.model.proofs.Contents.{StageOf, Inside, Clear}
 use Rattle.model.proofs.Tests.{test}
@@ -304,15 +304,6 @@ module _ (os before : List Op) (addr : ℕ → ℕ) (w : Working) where
         order = table (w .numblks) addr;
         used = w .dirtycnt + 1;
       }
-
-  -- A word taken in the record is taken in the run.
-  pub attempt-word : (x : ℕ) → attempt os addr (withWord x w) ≡ took os x (attempt before addr w)
-  attempt-word x = refl
-
-  -- A change of the place, the move and the read or write changes in the run only what is still to do.
-  pub attempt-passed :
-      (a : Place) (m n : ℕ) → attempt os addr (goto a (withAccess m n w)) ≡ passed os (attempt before addr w)
-  attempt-passed a m n = refl
 
 -- With no block marked, the run of a job that takes an update is at its start.
 pub attempt-begun :

@@ -1,18 +1,16 @@
 -- The small steps of an update's moves as a list, an update run whole on a memory by blocks, and a run in progress as
--- functions. What a job still has to do is read off its place. Assumes nothing.
+-- functions. What a job inside a move still has to do is read off its place and its record. Assumes nothing.
 use Prim.Native.Nat.{ℕ, _+_, _/_, _%_}
 use mathlib.Core.Bool.{Bool, not}
 use mathlib.Core.List.{List, [], _∷_, _++_}
 use lib.Dec.{eqb}
 use lib.ListN.{getD, drop}
 use Rattle.format.specs.declared.Move.{Move}
-use Rattle.format.specs.Plan.{Plan}
+use Rattle.format.specs.Plan.{Plan, jobIn}
 use Rattle.format.specs.Stored.{table}
 use Rattle.model.specs.declared.Stage.{Stage}
-use Rattle.model.specs.declared.Place.{Place}
 use Rattle.model.specs.declared.Working.{Working}
 use Rattle.model.specs.Moves.{Access, read, write, accesses, written, moves, move, access}
-use Rattle.model.specs.Steps.{jobIn}
 use Rattle.model.proofs.Update.{upd}
 
 -- Words by block and place in the block: the memory, or the store by block numbers.
@@ -69,31 +67,6 @@ ahead plan st w =
     ofStage (plan .sizes .words) (move plan w) st (access plan w)
     ++ (ofAccesses (plan .sizes .words) (move plan w) (drop (w .access + 1) (accesses (move plan w)))
     ++ ofMoves (plan .sizes .words) (drop (w .index + 1) (moves plan w)))
-
--- What a job at a place still has to do of the update that it runs.
-abbrev pub todo : Plan → Place → Working → List Op
-todo plan Place.Idle w = []
-todo plan Place.A1 w = []
-todo plan Place.A2 w = []
-todo plan Place.A4 w = []
-todo plan Place.A7 w = []
-todo plan Place.A10 w = []
-todo plan Place.A12 w = []
-todo plan Place.A14 w = []
-todo plan Place.A15 w = []
-todo plan Place.H16 w = []
-todo plan Place.H17 w = []
-todo plan Place.H21 w = []
-todo plan (Place.Move st) w = ahead plan st w
-todo plan Place.H22 w = []
-todo plan Place.H25 w = []
-todo plan Place.H32 w = []
-todo plan Place.H34 w = []
-todo plan Place.H36 w = []
-todo plan Place.H37 w = []
-todo plan Place.H38 w = []
-todo plan Place.H41 w = []
-todo plan Place.H42 w = []
 
 -- A run in progress: what is still to do, the word last taken, which blocks are listed and which are written, their
 -- numbers in this run, the listed blocks in listing order, and how many copy blocks are used.

@@ -18,12 +18,11 @@ use mathlib.Core.Bool.{Bool, true, false, false≢true}
 use mathlib.Core.List.{List}
 use lib.ListN.{length}
 use Rattle.format.specs.declared.Entry.{Entry}
-use Rattle.format.specs.Plan.{Plan, any}
+use Rattle.format.specs.Plan.{Plan, any, jobIn}
 use Rattle.model.specs.declared.Place.{Place}
 use Rattle.model.specs.Lists.{select, beforeFirst, afterFirst}
 use Rattle.model.specs.Memory.{jobOf, updateOf}
 use Rattle.model.specs.Places.{isActive}
-use Rattle.model.specs.Steps.{jobIn}
 use Rattle.model.specs.History.{Event, announces, decides, commits, returns, commitsIn, latest}
 use Rattle.model.specs.Demand3.{isOpen, isStored, cardOf, passing, memoryAfter}
 use Rattle.model.proofs.View.{Status, undecided, decided, finished, State}

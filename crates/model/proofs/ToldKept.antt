@@ -24,7 +24,7 @@ use native.Mathlib.Decide.{ℕ-discrete, decLt}
 use borrow.Author.Tests.{eqb-true, eq-eqb, ne-eqb}
 use Rattle.text.proofs.Cases.{by-test, neither}
 use Rattle.format.specs.declared.Entry.{Entry}
-use Rattle.format.specs.Plan.{Plan, any}
+use Rattle.format.specs.Plan.{Plan, any, jobIn}
 use Rattle.format.specs.Sound.{Sound}
 use Rattle.model.specs.declared.Stage.{Stage}
 use Rattle.model.specs.declared.Place.{Place}
@@ -37,18 +37,7 @@ use Rattle.model.specs.Places.{isActive}
 use Rattle.model.specs.Status.{same}
 use Rattle.model.specs.Moves.{block, offset, move, written}
 use Rattle.model.specs.Working.{goto, called, withRound, taking, withWord, nextBlock}
-use Rattle.model.specs.Steps.{
-  Shared,
-  quiet,
-  storing,
-  doing,
-  sameVersion,
-  mayDecide,
-  mayCommit,
-  jobIn,
-  item,
-  stage,
-}
+use Rattle.model.specs.Steps.{Shared, quiet, storing, doing, sameVersion, mayDecide, mayCommit, item, stage}
 use Rattle.model.specs.History.{
   Event,
   did,
@@ -59,8 +48,8 @@ use Rattle.model.specs.History.{
   isCommit,
   commitsIn,
   latest,
-  movesV,
   callEvent,
+  itemEvent,
 }
 use Rattle.model.specs.Demand3.{isOpen, isStored, cardOf, passing, memoryAfter}
 use Rattle.model.proofs.Update.{upd, upd-same, upd-other, upd-at, upd-elim, upd-map}
@@ -460,17 +449,7 @@ module _
 
   -- The event of what the item at a place gave.
   abbrev event : Place → Out → Event
-  event a o =
-      record {
-        entry = length h + 1;
-        job = p;
-        call = latest p h;
-        item = a;
-        helped = latest helped h;
-        block = job p .addr;
-        done = o .done;
-        moved = movesV (o .store);
-      }
+  event a o = itemEvent h p (goto a (job p)) o
 
   -- The history after the event.
   abbrev behind : Place → Out → List Event

@@ -8,11 +8,10 @@ use mathlib.Core.List.{List}
 use lib.Dec.{eqb}
 use lib.ListN.{length, take}
 use Rattle.format.specs.declared.Entry.{Entry}
-use Rattle.format.specs.Plan.{Plan, any}
+use Rattle.format.specs.Plan.{Plan, any, jobIn}
 use Rattle.model.specs.Lists.{select, beforeFirst, afterFirst}
 use Rattle.model.specs.Memory.{jobOf, movesOf, afterUpdate, memory}
 use Rattle.model.specs.Machine.{blockIn, seen}
-use Rattle.model.specs.Steps.{jobIn}
 use Rattle.model.specs.History.{
   Event,
   announces,

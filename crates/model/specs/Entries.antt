@@ -6,12 +6,11 @@ use mathlib.Core.Option.{Option, none, some}
 use lib.Dec.{eqb, ltb, leb}
 use lib.ListN.{length}
 use Rattle.format.specs.declared.Entry.{Entry}
-use Rattle.format.specs.Plan.{Plan}
+use Rattle.format.specs.Plan.{Plan, jobIn}
 use Rattle.model.specs.declared.Refusal.{Refusal}
 use Rattle.model.specs.declared.Judgement.{Judgement}
 use Rattle.model.specs.Places.{isActive}
 use Rattle.model.specs.Working.{called}
-use Rattle.model.specs.Steps.{jobIn}
 use Rattle.model.specs.Machine.{Machine, workOf, withWork, carriedOut, itemOf}
 
 -- The number of each refusal in the table.

@@ -10,6 +10,7 @@ use lib.ListN.{length}
 use Rattle.format.specs.declared.Entry.{Entry}
 use Rattle.format.specs.Plan.{Plan}
 use Rattle.model.specs.declared.Place.{Place}
+use Rattle.model.specs.declared.Working.{Working}
 use Rattle.model.specs.declared.Store.{Store}
 use Rattle.model.specs.declared.Out.{Out}
 use Rattle.model.specs.declared.Refusal.{Refusal}
@@ -111,16 +112,16 @@ callEvent h job =
       moved = false;
     }
 
--- The event of an item that job p does.
-abbrev pub itemEvent : List Event → Machine → ℕ → Out → Event
-itemEvent h m p o =
+-- The event of an item that job p does, whose record before it is w.
+abbrev pub itemEvent : List Event → ℕ → Working → Out → Event
+itemEvent h p w o =
     record {
       entry = length h + 1;
       job = p;
       call = latest p h;
-      item = workOf m p .place;
-      helped = latest (workOf m p .hid) h;
-      block = workOf m p .addr;
+      item = w .place;
+      helped = latest (w .hid) h;
+      block = w .addr;
       done = o .done;
       moved = movesV (o .store);
     }
@@ -128,7 +129,7 @@ itemEvent h m p o =
 -- The history after an entry that is judged so.
 abbrev pub recorded : Plan → Machine → List Event → Judgement → List Event
 recorded plan m h (Judgement.Calls job update) = h ++ (callEvent h job ∷ [])
-recorded plan m h (Judgement.Runs p) = h ++ (itemEvent h m p (itemOf plan m p) ∷ [])
+recorded plan m h (Judgement.Runs p) = h ++ (itemEvent h p (workOf m p) (itemOf plan m p) ∷ [])
 recorded plan m h (Judgement.Refused r) = h
 
 -- The refusal of an entry that is judged so.

@@ -7,8 +7,7 @@ use mathlib.Core.List.{List, [], _∷_, _++_}
 use lib.Dec.{eqb, ltb}
 use lib.IntN.{ℤ, pos}
 use lib.ListN.{length, getD, drop}
-use Rattle.format.specs.declared.Job.{Job}
-use Rattle.format.specs.Plan.{Plan}
+use Rattle.format.specs.Plan.{Plan, jobIn}
 use Rattle.model.specs.declared.Stage.{Stage}
 use Rattle.model.specs.declared.Place.{Place}
 use Rattle.model.specs.declared.Version.{Version}
@@ -85,10 +84,6 @@ replaced addr old dirty (suc n) =
 -- Numbers take the first places of a list; the other places stay.
 abbrev pub inFirstPlaces : List ℕ → List ℕ → List ℕ
 inFirstPlaces ns list = ns ++ drop (length ns) list
-
--- Job k's card and priority.
-abbrev pub jobIn : Plan → ℕ → Job
-jobIn plan k = getD (plan .jobs) k (record { card = 0; priority = 0 })
 
 -- The step list for a plan, with the shared cells as they are, for job p.
 module _ (plan : Plan) (s : Shared) (p : ℕ) where
