@@ -1,10 +1,11 @@
 -- The theorem is about something: two plans that are accepted, so that demand 3 holds of each with every list of
--- entries; and a state that a schedule reaches in which both cases of the memory clause are met. Assumes nothing.
+-- entries; a state that a schedule reaches in which both cases of the memory clause are met; and one in which the bound
+-- on the calls that pass another is met. Assumes nothing.
 use Prim.Native.Nat.{ℕ}
 use mathlib.Core.Path.{_≡_, refl}
 use mathlib.Core.Bool.{Bool, true, false}
 use mathlib.Core.List.{List, [], _∷_, _++_}
-use lib.ListN.{replicate}
+use lib.ListN.{length, replicate}
 use Rattle.text.specs.Bytes.{bytes}
 use Rattle.text.specs.Lines.{lines, fields}
 use Rattle.text.specs.Numbers.{number}
@@ -21,7 +22,7 @@ use Rattle.model.specs.Steps.{sameVersion, stage, item}
 use Rattle.model.specs.Machine.{openingOf, stored, carriedOut, itemOf, seen}
 use Rattle.model.specs.Entries.{judge, acted}
 use Rattle.model.specs.History.{Run, begun, entered, runOf}
-use Rattle.model.specs.Demand3.{isOpen, isStored, memoryAfter, Demand3}
+use Rattle.model.specs.Demand3.{isOpen, isStored, passing, memoryAfter, Demand3}
 use Rattle.model.proofs.Demand3.{demand3}
 
 -- The plan of document 01's run T.
@@ -126,3 +127,12 @@ pub half-way :
 unfolding runOf begun entered judge acted openingOf carriedOut itemOf stored item stage sameVersion if_then_else_
     memory afterUpdate
 half-way = refl
+
+-- Job 0 is called and announced; then job 1, of another card, is called and runs on to its commit.
+abbrev overtaking : List Entry
+overtaking = call 0 1 ∷ replicate 4 (step 0) ++ (call 1 1 ∷ replicate 28 (step 1))
+
+-- The bound on those that pass a call is met: card 1 has passed the pending call 1 once.
+pub passed-once : length (passing threeCards overtaking (runOf threeCards overtaking .history) 1 1) ≡ 1
+unfolding runOf begun entered judge acted openingOf carriedOut itemOf stored item stage sameVersion if_then_else_
+passed-once = refl
