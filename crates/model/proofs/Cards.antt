@@ -195,10 +195,13 @@ module _ (P : Layout) where
     pub none : B′ .finished (P .jobs) ≡ true
     pub active : B .active k ≡ true → B′ .active k ≡ true
     pub below :
-        B .active k ≡ true → (q : ℕ) → Below q k → (B′ .announced q ≡ B .announced q) × (B .finished q ≡ true → B′ .finished q ≡ true)
+        B .active k ≡ true → (q : ℕ) → Below q k
+        → (B′ .announced q ≡ B .announced q) × (B .finished q ≡ true → B′ .finished q ≡ true)
 
   -- Where statuses only become N, what is not N was not N.
-  was-pending : (B B′ : Board) (q : ℕ) → (B .finished q ≡ true → B′ .finished q ≡ true) → B′ .finished q ≡ false → B .finished q ≡ false
+  was-pending :
+      (B B′ : Board) (q : ℕ) → (B .finished q ≡ true → B′ .finished q ≡ true) → B′ .finished q ≡ false
+      → B .finished q ≡ false
   was-pending B B′ q K f = go (B .finished q) refl
     where
       go : (x : Bool) → B .finished q ≡ x → B .finished q ≡ false
@@ -217,7 +220,9 @@ module _ (P : Layout) where
       below : (q : ℕ) → Below q k → (B′ .announced q ≡ B .announced q) × (B .finished q ≡ true → B′ .finished q ≡ true)
       below = K .below (u .here)
 
-      go : (l ≡ P .jobs) ⊎ ((B .announced l ≡ true) × Below l k) → (l ≡ P .jobs) ⊎ ((B′ .announced l ≡ true) × Below l k)
+      go :
+          (l ≡ P .jobs) ⊎ ((B .announced l ≡ true) × Below l k)
+          → (l ≡ P .jobs) ⊎ ((B′ .announced l ≡ true) × Below l k)
       go (inl e) = inl e
       go (inr h) = inr (below l (h .1) .0 ∙ h .0, h .1)
 

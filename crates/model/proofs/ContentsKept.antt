@@ -346,7 +346,8 @@ module _ (plan : Plan) (ok : Sound plan) (sh : Shared) (job : ℕ → Working)
       → w .curr ≡ job p .curr → Clear (job p) → (Past v (job p) → Past v w) → Good (quiet w)
   rests w e cp d cu c pp =
       still w cp pp
-      (plain-contents (s .sh) g (upd job p w) w (roomy-as w d cu cp) (subst (λ l. (b : ℕ) → getD l b 0 ≡ 0) (sym d) c) e)
+      (plain-contents (s .sh) g (upd job p w) w (roomy-as w d cu cp) (subst (λ l. (b : ℕ) → getD l b 0 ≡ 0) (sym d) c)
+      e)
 
   -- The same, the marks cleared.
   clears :
@@ -527,7 +528,8 @@ module _ (plan : Plan) (ok : Sound plan) (sh : Shared) (job : ℕ → Working)
                     newlist = refl;
                   }) j refl (record {
                     roomy =
-                        roomy-same (listing k b (job p)) j refl refl refl (roomy-listing k b (job p) (E .each p .roomy));
+                        roomy-same (listing k b (job p)) j refl refl refl
+                        (roomy-listing k b (job p) (E .each p .roomy));
                     own = (
                       inside-same plan (job p) j refl refl refl st (afterList (access plan (job p))) I
                           (after-list (access plan (job p))),
@@ -582,7 +584,8 @@ module _ (plan : Plan) (ok : Sound plan) (sh : Shared) (job : ℕ → Working)
                     keeps-block plan s D g E p np (job p .dirtycnt) has-room (blk (getD (job p .curr) k 0)) jc refl
                     (record {
                       roomy =
-                          roomy-same (copying k c (job p)) jc refl refl refl (roomy-copying k c (job p) (E .each p .roomy));
+                          roomy-same (copying k c (job p)) jc refl refl refl
+                          (roomy-copying k c (job p) (E .each p .roomy));
                       own = (
                         inside-same plan (job p) jc refl refl refl st Stage.Write I so,
                         subst
@@ -727,7 +730,8 @@ module _ (plan : Plan) (ok : Sound plan) (sh : Shared) (job : ℕ → Working)
         (goto (begin (getD (plan .updates) (sh .trans (job p .hid)) [])) (taking (sh .trans (job p .hid)) (job p))))
     keeps-H21 c fk =
         begin-ahead (λ a. Good (quiet (goto a (taking u (job p))))) plan u (job p)
-        (λ ins e. goes-on Stage.Check (taking u (job p)) (P .ops u) refl (roomy-as (taking u (job p)) refl refl refl) ins e
+        (λ ins e. goes-on Stage.Check (taking u (job p)) (P .ops u) refl (roomy-as (taking u (job p)) refl refl refl)
+        ins e
         (own-begun P begun (copyOf (job p))) (λ z f n. (live z f n, λ i l. absurd (omega arith))))
         (λ e. ends (taking u (job p)) refl (roomy-as (taking u (job p)) refl refl refl) (omega arith)
         (λ z f n. (
@@ -1147,7 +1151,8 @@ module _ (plan : Plan) (ok : Sound plan) (sh : Shared) (job : ℕ → Working)
             rw eq (omega arith),
         tt,
       ) (keeps-commit plan s D g E p (winnerOf (job p)) (sh .numblks (winnerOf (job p))) (sk ev f)
-      (job p .hid) eq d refl _ refl (past-on _ refl refl tt) (plain-contents _ _ _ _ (roomy-as _ refl refl refl) own refl)))
+      (job p .hid) eq d refl _ refl (past-on _ refl refl tt)
+      (plain-contents _ _ _ _ (roomy-as _ refl refl refl) own refl)))
       (λ _. rests _ refl refl refl refl own (past-on _ refl refl tt))
 
   -- The item that p stands before keeps the layer, and stores inside the arrays.

@@ -76,5 +76,6 @@ arrays-kept form text plan listed lines read es =
       inv .sized,
       λ k h.
           rw (← bank-seen plan ok (runOf plan es .machine) (inv .sized) k h)
-          (bank-numbers plan (stateIn plan (runOf plan es .machine)) (l .cards) (l .epochs) (l .memory) (l .contents) k h),
+          (bank-numbers plan (stateIn plan (runOf plan es .machine)) (l .cards) (l .epochs) (l .memory) (l .contents)
+          k h),
     )

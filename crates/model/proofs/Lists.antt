@@ -243,7 +243,8 @@ module _ (plan : Plan) (ok : Sound plan) where
 
     -- What an item gave, carried out, is the same in the view.
     pub view-after :
-        (o : Out) → Fits plan (o .work) (o .store) → stateIn plan (carriedOut plan p o m) ≡ after plan p o (stateIn plan m)
+        (o : Out) → Fits plan (o .work) (o .store)
+        → stateIn plan (carriedOut plan p o m) ≡ after plan p o (stateIn plan m)
     unfolding carriedOut
     view-after o f = seen-stored (o .work) (o .store) f
 
@@ -397,7 +398,9 @@ module _ (plan : Plan) (ok : Sound plan) where
   sized-stored m sized p below w (Store.Word b i x) f =
       sized-store m sized _ (length-set (m .store) (b * plan .sizes .words + i) x ∙ sized .store)
   sized-stored m sized p below w Store.Published f =
-      sized-cells (machine.withNew p (newNumbers m p w) m) (sized-new m sized p (newNumbers m p w) (in-array plan ok p below) (rw (length-table (w .numblks) (λ i. getD (w .curr) (inRow (m .addrlist) p i) 0)) f)) _ (sized .ann)
+      sized-cells (machine.withNew p (newNumbers m p w) m)
+      (sized-new m sized p (newNumbers m p w) (in-array plan ok p below)
+      (rw (length-table (w .numblks) (λ i. getD (w .curr) (inRow (m .addrlist) p i) 0)) f)) _ (sized .ann)
       (sized .stat)
       (sized .trans)
       (sized .bank)

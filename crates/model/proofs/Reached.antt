@@ -234,7 +234,11 @@ module _ (plan : Plan) (ok : Sound plan) where
       unfolding acted
       step-kept =
           subst (λ x. Inv plan more
-          (record { machine = carriedOut plan p x m; history = h ++ (itemEvent h p (workOf m p) x ∷ []); refusal = none }))
+          (record {
+            machine = carriedOut plan p x m;
+            history = h ++ (itemEvent h p (workOf m p) x ∷ []);
+            refusal = none;
+          }))
           (sym (item-seen plan m p (a .has-job))) (subst (λ w. Inv plan more
           (record { machine = carriedOut plan p o m; history = h ++ (itemEvent h p w o ∷ []); refusal = none }))
           (job-seen plan m p (a .has-job)) (record {

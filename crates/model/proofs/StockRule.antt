@@ -3,8 +3,8 @@
 --
 -- In plain words. While no status is a job's number, the third layer has the rule in the view by functions, and the
 -- view reads the bank and the copy lists of the plan's jobs off the machine's lists, which have their lengths: so it is
--- the rule of these. As many different numbers below B + NC as there are numbers below B + NC are all of them, so none is missing. Where no
--- call is decided and uncommitted, no status is a job's number (Answer.antt).
+-- the rule of these. As many different numbers below B + NC as there are numbers below B + NC are all of them, so none
+-- is missing. Where no call is decided and uncommitted, no status is a job's number (Answer.antt).
 use Prim.Native.Nat.{ℕ, _<_}
 use mathlib.Core.Path.{_≡_, sym, _∙_, ap}
 use mathlib.Core.Logic.{_≢_, _⊎_, inl, inr}

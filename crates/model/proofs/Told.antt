@@ -4,11 +4,11 @@
 -- In plain words. The latest call of an active job is current: it has not returned, it is announced exactly when the
 -- job has done its first A14, it is decided and uncommitted exactly when the job's status is a job's number, it has
 -- committed as often as the fourth layer counts, and each other card has passed it as often as is counted there. Every
--- other number is closed: it is a call that has returned after one commit, or no call, and then was never announced; and
--- nothing that is to come speaks of it, because an item is done for the running job's current call, and what it decides
--- or commits is the chief's, which is announced and so active. The one-after-another memory that the history gives is
--- the one of the third layer, because Trans of the chief names the update that the chief's call names; and the blocks
--- that the history says H41 has stored since the deciding are the ones of the third layer.
+-- other number is closed: it is a call that has returned after one commit, or no call, and then was never announced;
+-- and nothing that is to come speaks of it, because an item is done for the running job's current call, and what it
+-- decides or commits is the chief's, which is announced and so active. The one-after-another memory that the history
+-- gives is the one of the third layer, because Trans of the chief names the update that the chief's call names; and the
+-- blocks that the history says H41 has stored since the deciding are the ones of the third layer.
 --
 -- Assumes nothing here; the laws about it assume the layers before.
 use Prim.Native.Nat.{ℕ, _≤_, _<_}
