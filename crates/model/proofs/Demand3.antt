@@ -8,7 +8,7 @@
 --
 -- The length of the list is not used: the theorem holds of longer lists than a schedule can have.
 use Prim.Native.Nat.{ℕ, _<_}
-use mathlib.Core.Path.{_≡_}
+use mathlib.Core.Path.{_≡_, subst}
 use mathlib.Core.Bool.{false}
 use mathlib.Core.List.{List, map}
 use lib.ListN.{take}
@@ -18,11 +18,13 @@ use Rattle.format.specs.Plan.{Plan, Listed}
 use Rattle.format.specs.Sound.{Sound}
 use Rattle.format.specs.Reading.{reading, accepted}
 use Rattle.format.proofs.Sound.{accepted-sound}
+use Rattle.model.specs.Machine.{workOf}
 use Rattle.model.specs.History.{runOf}
 use Rattle.model.specs.Demand3.{isOpen, Holds, Demand3}
 use Rattle.model.specs.StockRule.{blockNumbers, bankNumber, StockRule}
 use Rattle.model.proofs.View.{stateIn}
-use Rattle.model.proofs.Sizes.{Sized}
+use Rattle.model.proofs.Sizes.{Sized, Roomy}
+use Rattle.model.proofs.Lists.{job-seen}
 use Rattle.model.proofs.ContentsFrame.{bank-numbers}
 use Rattle.model.proofs.Reached.{Layers, Inv, always}
 use Rattle.model.proofs.Answer.{holds-of}
@@ -62,18 +64,20 @@ stock-rule form text plan listed lines read es none =
     stock-when-none-open plan ok es (runOf plan es) (inv .sized) (l .memory) (l .counts) (l .cards) (l .epochs)
     (l .contents) (l .told) none
 
--- After any entries, decided or not: every array of the machine has its length, and the bank names a block number for
--- every block. So what is seen through the bank is always words of the store.
+-- After any entries, decided or not: every array of the machine and of the jobs' records has its length, and the bank
+-- names a block number for every block. So what is seen through the bank is always words of the store.
 pub arrays-kept :
     (form : Form) (text : List ℕ) (plan : Plan) (listed : List Listed) (lines : ℕ)
     → reading form text ≡ accepted plan listed lines → (es : List Entry)
     → Sized (runOf plan es .machine)
+    × ((q : ℕ) → q < plan .sizes .jobs → Roomy (workOf (runOf plan es .machine) q))
     × ((k : ℕ) → k < plan .sizes .blocks → bankNumber plan (runOf plan es .machine) k < blockNumbers plan)
 arrays-kept form text plan listed lines read es =
     let ok : Sound plan = accepted-sound form text plan listed lines read in
     let inv : Inv plan es (runOf plan es) = always plan ok es in
     let l : Layers plan es _ _ = inv .layers in (
       inv .sized,
+      λ q h. subst Roomy (job-seen plan (runOf plan es .machine) q h) (l .contents .each q .roomy),
       λ k h.
           rw (← bank-seen plan ok (runOf plan es .machine) (inv .sized) k h)
           (bank-numbers plan (stateIn plan (runOf plan es .machine)) (l .cards) (l .epochs) (l .memory) (l .contents)

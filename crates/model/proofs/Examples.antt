@@ -1,6 +1,6 @@
 -- The theorem is about something: two plans that are accepted, so that demand 3 holds of each with every list of
 -- entries; a state that a schedule reaches in which both cases of the memory clause are met; and one in which the bound
--- on the calls that pass another is met. Assumes nothing.
+-- on the calls that pass another is reached. Assumes nothing.
 use Prim.Native.Nat.{ℕ}
 use mathlib.Core.Path.{_≡_, refl}
 use mathlib.Core.Bool.{Bool, true, false}
@@ -132,7 +132,7 @@ half-way = refl
 abbrev overtaking : List Entry
 overtaking = call 0 1 ∷ replicate 4 (step 0) ++ (call 1 1 ∷ replicate 28 (step 1))
 
--- The bound on those that pass a call is met: card 1 has passed the pending call 1 once.
+-- The bound on those that pass a call is reached: card 1 has passed the pending call 1 once.
 pub passed-once : length (passing threeCards overtaking (runOf threeCards overtaking .history) 1 1) ≡ 1
 unfolding runOf begun entered judge acted openingOf carriedOut itemOf stored item stage sameVersion if_then_else_
 passed-once = refl
