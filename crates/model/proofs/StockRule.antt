@@ -44,7 +44,7 @@ bank-seen plan ok m sized k h =
 
 module _ (plan : Plan) (ok : Sound plan) (m : Machine) (sized : Sized m)
     (roomy : (q : ℕ) → Roomy (stateIn plan m .job q)) where
-  -- Of the plan's blocks.
+  -- `bank-seen` of this machine.
   seen : (k : ℕ) → k < plan .sizes .blocks → stateIn plan m .sh .bank k ≡ bankNumber plan m k
   seen = bank-seen plan ok m sized
 
