@@ -46,7 +46,7 @@ use Rattle.model.proofs.Events.{
   passing-in,
   announces-only,
 }
-use Rattle.model.proofs.Told.{Unused, Closed}
+use Rattle.model.proofs.Told.{Unused, Telling, Closed}
 
 -- The event speaks of call c neither as announced, decided, committed nor returned.
 pub record Quiet (e : Event) (c : ℕ) : Type 0 where
@@ -99,18 +99,6 @@ module _ (h : List Event) (e : Event) (c : ℕ) where
   -- Before the deciding no block is stored.
   pub stored-none : (b : ℕ) → any (decides c) h ≡ false → isStored (h ++ (e ∷ [])) c b ≡ false
   stored-none b n = rw (after-last (decides c) h e n)
-
--- What a history tells of a call c of card `own` that has not returned: whether it is announced (a), whether it is
--- decided and uncommitted (d), how often it has committed (n), and, once announced, how many calls of each other card
--- have passed it, as many as the lists l are long.
-pub record Telling
-    (plan : Plan) (es : List Entry) (h : List Event) (c : ℕ) (a d : Bool) (n : ℕ) (l : ℕ → List ℕ) (own : ℕ)
-    : Type 0 where
-  pub not-returned : any (returns c) h ≡ false
-  pub announced-is : any (announces c) h ≡ a
-  pub open-is : isOpen h c ≡ d
-  pub commits-are : length (select (commits c) h) ≡ n
-  pub passing-are : a ≡ true → (r : ℕ) → r ≢ own → length (passing plan es h c r) ≡ length (l r)
 
 -- Of a call that no event speaks of.
 pub tells-nothing :

@@ -101,16 +101,24 @@ pub record Unused (h : List Event) (c : ℕ) : Type 0 where
   pub not-committed : any (commits c) h ≡ false
   pub not-returned : any (returns c) h ≡ false
 
+-- What a history tells of a call c of card `own` that has not returned: whether it is announced (a), whether it is
+-- decided and uncommitted (d), how often it has committed (n), and, once announced, how many calls of each other card
+-- have passed it, as many as the lists l are long.
+pub record Telling
+    (plan : Plan) (es : List Entry) (h : List Event) (c : ℕ) (a d : Bool) (n : ℕ) (l : ℕ → List ℕ) (own : ℕ)
+    : Type 0 where
+  pub not-returned : any (returns c) h ≡ false
+  pub announced-is : any (announces c) h ≡ a
+  pub open-is : isOpen h c ≡ d
+  pub commits-are : length (select (commits c) h) ≡ n
+  pub passing-are : a ≡ true → (r : ℕ) → r ≢ own → length (passing plan es h c r) ≡ length (l r)
+
 module _ (plan : Plan) (es : List Entry) (h : List Event) where
-  -- The latest call of an active job k.
-  pub record Current (s : State) (H : Tally) (k : ℕ) : Type 0 where
-    pub not-returned : any (returns (latest k h)) h ≡ false
-    pub announced-is : any (announces (latest k h)) h ≡ announced (phase (s .job k))
-    pub open-is : isOpen h (latest k h) ≡ isDecided (s .sh .stat k)
-    pub commits-are : length (select (commits (latest k h)) h) ≡ H .committed k
-    pub passing-are :
-        announced (phase (s .job k)) ≡ true → (r : ℕ) → r ≢ jobIn plan k .card
-        → length (passing plan es h (latest k h) r) ≡ length (H .passed k r)
+  -- What the history tells of call c agrees with the state and with what is counted of job k.
+  abbrev pub Agrees : ℕ → State → Tally → ℕ → Type 0
+  Agrees c s H k =
+      Telling plan es h c (announced (phase (s .job k))) (isDecided (s .sh .stat k)) (H .committed k) (H .passed k)
+      (jobIn plan k .card)
 
   -- A call that is not current.
   pub record Closed (c : ℕ) : Type 0 where
@@ -133,7 +141,8 @@ module _ (plan : Plan) (es : List Entry) (h : List Event) where
     pub trans-of : (k : ℕ) → Taken (s .job k .place) → s .sh .trans k ≡ s .job k .update
     -- no event speaks of "no call" or of a call to come
     pub unused : (c : ℕ) → (c ≡ 0) ⊎ (length h < c) → Unused h c
-    pub current : (k : ℕ) → isActive (s .job k .place) ≡ true → Current s H k
+    -- the latest call of an active job is current; every other number is closed
+    pub current : (k : ℕ) → isActive (s .job k .place) ≡ true → Agrees (latest k h) s H k
     pub closed : (c : ℕ) → ((k : ℕ) → isActive (s .job k .place) ≡ true → latest k h ≢ c) → Closed c
     pub announced-first : (c : ℕ) → any (commits c) (beforeFirst (announces c) h) ≡ false
     -- the memory and the stored blocks

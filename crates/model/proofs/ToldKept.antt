@@ -98,7 +98,17 @@ use Rattle.model.proofs.Epochs.{kind, winnerOf, Widened, HelpHolds, chi
 use Rattle.model.proofs.Contents.{Ghost, ghostStat, ghost}
 use Rattle.model.proofs.Counts.{target}
 use Rattle.model.proofs.Bypass.{Tally, tallyStat, tally, tallyCall, BypassHolds}
-use Rattle.model.proofs.Told.{announced-taken, decided-by, isDecided, Taken, Unused, Current, Closed, Told}
+use Rattle.model.proofs.Told.{
+  isDecided,
+  decided-by,
+  Taken,
+  announced-taken,
+  Unused,
+  Telling,
+  Agrees,
+  Closed,
+  Told,
+}
 use Rattle.model.proofs.Events.{
   length-last,
   none-passes,
@@ -118,7 +128,6 @@ use Rattle.model.proofs.Telling.{
   stored-same,
   stored-more,
   stored-none,
-  Telling,
   tells-nothing,
   tells-same,
   tells-passed,
@@ -129,38 +138,6 @@ use Rattle.model.proofs.Telling.{
   closed-returned,
   closed-same,
 }
-
--- What the history h tells of call c agrees with the state and with what is counted of job k.
-abbrev Agrees : Plan → List Entry → List Event → ℕ → State → Tally → ℕ → Type 0
-Agrees plan es h c s H k =
-    Telling plan es h c (announced (phase (s .job k))) (isDecided (s .sh .stat k)) (H .committed k) (H .passed k)
-    (jobIn plan k .card)
-
-module _ (plan : Plan) (es : List Entry) (h : List Event) (s : State) (H : Tally) (k : ℕ) where
-  -- So it is for a current call,
-  agrees : Current plan es h s H k → Agrees plan es h (latest k h) s H k
-  agrees K =
-      record {
-        not-returned = K .not-returned;
-        announced-is = K .announced-is;
-        open-is = K .open-is;
-        commits-are = K .commits-are;
-        passing-are = K .passing-are;
-      }
-
-  -- and a latest call of which it is so is current.
-  current-by : (c : ℕ) → latest k h ≡ c → Agrees plan es h c s H k → Current plan es h s H k
-  current-by c e K = go (subst (λ x. Agrees plan es h x s H k) (sym e) K)
-    where
-      go : Agrees plan es h (latest k h) s H k → Current plan es h s H k
-      go L =
-          record {
-            not-returned = L .not-returned;
-            announced-is = L .announced-is;
-            open-is = L .open-is;
-            commits-are = L .commits-are;
-            passing-are = L .passing-are;
-          }
 
 -- An idle job is not active.
 not-active : (a : Place) → a ≡ Place.Idle → isActive a ≡ true → ⊥
@@ -252,7 +229,7 @@ module _
         passing-same : (c r : ℕ) → passing plan (es ++ (e ∷ [])) h c r ≡ passing plan es h c r
         passing-same = passing-before (length h) plan es e (T .short) h (T .within)
 
-        current : (k : ℕ) → Current plan es h s H k → Current plan (es ++ (e ∷ [])) h s H k
+        current : (k : ℕ) → Agrees plan es h (latest k h) s H k → Agrees plan (es ++ (e ∷ [])) h (latest k h) s H k
         current k K =
             record {
               not-returned = K .not-returned;
@@ -353,12 +330,7 @@ module _
         trans-of =
             split (λ k c w. Taken (w .place) → s .sh .trans k ≡ w .update) (λ t. absurd t) (λ k _. T .trans-of k);
         unused = λ c o. unused-same h (callEvent h j) c (T .unused c (later c o)) (call-quiet c);
-        current =
-            λ k y.
-            current-by plan entries with-call (record { sh = s .sh; job = with-called }) (tallyCall j H) k
-            (latest k with-call)
-            refl
-            (split Kept mine others k y);
+        current = split Kept mine others;
         closed = λ c o. closed-same plan entries h (callEvent h j) c (T .closed c (before c o)) (call-quiet c);
         announced-first = λ c. first-same h (callEvent h j) c (T .announced-first c) (λ _. refl);
         within = within-same plan entries h s g H T (callEvent h j) refl;
@@ -403,7 +375,7 @@ module _
       others : (k : ℕ) → k ≢ j → Kept k (latest k h) (s .job k)
       others k n y =
           rw (upd-other (H .committed) j 0 k n)
-          (tells-same plan entries h (callEvent h j) (latest k h) (agrees plan entries h s H k (T .current k y))
+          (tells-same plan entries h (callEvent h j) (latest k h) (T .current k y)
           (call-quiet (latest k h))
           refl)
 
@@ -485,10 +457,6 @@ module _
   call-card : (k : ℕ) → isActive (job k .place) ≡ true → cardOf plan more (latest k h) ≡ jobIn plan k .card
   call-card k y = ap (λ (q : ℕ). jobIn plan q .card) (T .job-of k (T .has-call k y))
 
-  -- What the history before tells of the latest call of an active job.
-  so-far : (k : ℕ) → isActive (job k .place) ≡ true → Agrees plan more h (latest k h) s H k
-  so-far k y = agrees plan more h s H k (T .current k y)
-
   -- Where Trans stays and p is past A1, a job past A1 has its update in Trans still.
   trans-kept :
       (trans : ℕ → ℕ) (w : Working) → trans ≡ sh .trans → w .update ≡ job p .update → Taken (job p .place)
@@ -565,10 +533,7 @@ module _
                 λ c u.
                 unused-same h (event a o) c (T .unused c (outside c u .0))
                 (quiet-of c (outside c u .1 p (R .up)) (outside c u .1 helped));
-            current =
-                λ k y.
-                current-by plan more (behind a o) s′ H′ k (latest k h) (same-latest k)
-                (current k y (was-active k y));
+            current = λ k y. rw (same-latest k) (current k y (was-active k y));
             closed =
                 λ c m.
                 by-test (isActive (w .place))
@@ -672,7 +637,7 @@ module _
       steady a o (λ t. absurd (true≢false (sym t ∙ nothing .1 .1))) sc (o .work) g H′ keeps here trans up low
       (λ k y.
       rw (stat k, committed, passed)
-      (tells-same plan more h (event a o) (latest k h) (so-far k y) (quiet-event (latest k h)) (settling .1)))
+      (tells-same plan more h (event a o) (latest k h) (T .current k y) (quiet-event (latest k h)) (settling .1)))
       (recalled-same a o (sc .stat) (settling .1) (λ b. rw (nothing .1 .0)) stat)
     where
       nothing :
@@ -902,13 +867,13 @@ module _
           → Agrees plan more (behind Place.A14 o) (latest k h) (after plan p o s) restarted k
       current k y (yes z) =
           rw (z, upd-same job p w, upd-same (H .passed) p (λ _. []))
-          (tells-announced plan more h (event Place.A14 o) (latest p h) (so-far p (R .up)) (rw (e, t))
+          (tells-announced plan more h (event Place.A14 o) (latest p h) (T .current p (R .up)) (rw (e, t))
           (eq-eqb (latest p h) (latest p h) refl)
           refl
           refl)
       current k y (no n) =
           rw (upd-other job p w k n, upd-other (H .passed) p (λ _. []) k n)
-          (tells-same plan more h (event Place.A14 o) (latest k h) (so-far k y) (alone Place.A14 o refl k n y) refl)
+          (tells-same plan more h (event Place.A14 o) (latest k h) (T .current k y) (alone Place.A14 o refl k n y) refl)
 
   -- Second A14: p's call is announced already.
   again :
@@ -935,13 +900,13 @@ module _
       current : (k : ℕ) → isActive (job k .place) ≡ true → Dec (k ≡ p) → Still Place.A14 o (s .sh) H k
       current k y (yes z) =
           rw (z, low)
-          (tells-again plan more h (event Place.A14 o) (latest p h) (so-far p (R .up)) low
+          (tells-again plan more h (event Place.A14 o) (latest p h) (T .current p (R .up)) low
           (eq-eqb (latest p h) (latest p h) refl)
           refl
           refl
           refl)
       current k y (no n) =
-          tells-same plan more h (event Place.A14 o) (latest k h) (so-far k y) (alone Place.A14 o refl k n y) refl
+          tells-same plan more h (event Place.A14 o) (latest k h) (T .current k y) (alone Place.A14 o refl k n y) refl
 
   -- A15: p's call has committed once, and returns.
   returning :
@@ -953,7 +918,7 @@ module _
       (trans-kept (sh .trans) w refl refl (rw e tt))
       (λ k x y. current k x y (ℕ-discrete k p))
       (λ _.
-      closed-returned plan more h (event Place.A15 o) (latest p h) (so-far p (R .up)) low
+      closed-returned plan more h (event Place.A15 o) (latest p h) (T .current p (R .up)) low
       (finished-not (s .sh .stat p) fin)
       (I .once p low fin)
       refl
@@ -982,7 +947,7 @@ module _
       current k x y (yes z) = absurd (false≢true (rw (upd-at job p w k z) at x))
       current k x y (no n) =
           rw (upd-other job p w k n)
-          (tells-same plan more h (event Place.A15 o) (latest k h) (so-far k y) (alone Place.A15 o refl k n y) refl)
+          (tells-same plan more h (event Place.A15 o) (latest k h) (T .current k y) (alone Place.A15 o refl k n y) refl)
 
   -- The chief is announced.
   chief-low :
@@ -1011,7 +976,7 @@ module _
             (trans-kept (sh .trans) w refl keeps (rw e tt))
             up
             low
-            (λ k y. tells-same plan more h (event Place.H41 o) (latest k h) (so-far k y) (mute (latest k h)) refl)
+            (λ k y. tells-same plan more h (event Place.H41 o) (latest k h) (T .current k y) (mute (latest k h)) refl)
             (record {
               within = within-same plan more h s g H T (event Place.H41 o) refl;
               memory = memory-same plan more h s g H T (event Place.H41 o) refl;
@@ -1091,7 +1056,7 @@ module _
 
       undone : any (decides (latest helped h)) h ≡ false
       undone =
-          let k = so-far helped active in
+          let k = T .current helped active in
           let c : any (commits (latest helped h)) h ≡ false =
           none-passes (commits (latest helped h)) h (k .commits-are ∙ uncommitted) in
           by-test (any (decides (latest helped h)) h)
@@ -1101,13 +1066,13 @@ module _
       current : (k : ℕ) → isActive (job k .place) ≡ true → Dec (k ≡ helped) → Still Place.H25 o sc H k
       current k y (yes z) =
           rw (z, upd-same (s .sh .stat) helped (decided p))
-          (tells-decided plan more h (event Place.H25 o) (latest helped h) (so-far helped active) uncommitted refl
+          (tells-decided plan more h (event Place.H25 o) (latest helped h) (T .current helped active) uncommitted refl
           (eq-eqb (latest helped h) (latest helped h) refl)
           refl
           refl)
       current k y (no n) =
           rw (upd-other (s .sh .stat) helped (decided p) k n)
-          (tells-same plan more h (event Place.H25 o) (latest k h) (so-far k y)
+          (tells-same plan more h (event Place.H25 o) (latest k h) (T .current k y)
           (record {
             not-announced = refl;
             not-decided = ne-eqb (latest helped h) (latest k h) (λ z. n (one-job k helped y active (sym z)));
@@ -1179,7 +1144,7 @@ module _
             upd-same (s .sh .stat) helped finished,
             upd-same (H .committed) helped (H .committed helped + 1),
           )
-          (tells-committed plan more h (event Place.H42 o) call (so-far helped active) (H′ .passed helped) refl
+          (tells-committed plan more h (event Place.H42 o) call (T .current helped active) (H′ .passed helped) refl
           (eq-eqb call call refl)
           refl
           (call-card helped active)
@@ -1189,7 +1154,7 @@ module _
             upd-other (s .sh .stat) helped finished k n,
             upd-other (H .committed) helped (H .committed helped + 1) k n,
           )
-          (tells-passed plan more h (event Place.H42 o) (latest k h) (so-far k y)
+          (tells-passed plan more h (event Place.H42 o) (latest k h) (T .current k y)
           (record {
             not-announced = refl;
             not-decided = refl;
