@@ -25,7 +25,7 @@ use Rattle.model.specs.declared.Version.{Version}
 use Rattle.model.specs.declared.Working.{Working}
 use Rattle.model.specs.declared.Store.{Store}
 use Rattle.model.specs.Places.{isActive}
-use Rattle.model.specs.Moves.{Access, read, write, accesses, moves, move, access}
+use Rattle.model.specs.Ranges.{Inside}
 use Rattle.model.proofs.Update.{upd}
 use Rattle.model.proofs.View.{Status, undecided, decided, finished, isUndecided, statusIn, Scene, State}
 use Rattle.model.proofs.Sizes.{Roomy}
@@ -103,23 +103,6 @@ pub record Past (v : Version) (w : Working) : Type 0 where
   pub up : isActive (w .place) ≡ true
   pub fresh : w .ver ≡ v
   pub past : PastKind (kind (w .place))
-
--- A stage fits a read or a write.
-abbrev pub StageOf : Stage → Access → Type 0
-StageOf Stage.Check a = Unit {0}
-StageOf Stage.List a = Unit {0}
-StageOf Stage.Copy (read a) = ⊥
-StageOf Stage.Copy (write d) = Unit {0}
-StageOf Stage.Take (read a) = Unit {0}
-StageOf Stage.Take (write d) = ⊥
-StageOf Stage.Write (read a) = ⊥
-StageOf Stage.Write (write d) = Unit {0}
-
--- A job inside a move: the move and the read or write are there, and the stage fits.
-pub record Inside (plan : Plan) (st : Stage) (w : Working) : Type 0 where
-  pub in-moves : w .index < length (moves plan w)
-  pub in-move : w .access < length (accesses (move plan w))
-  pub stage-of : StageOf st (access plan w)
 
 -- No block is marked.
 abbrev pub Clear : Working → Type 0

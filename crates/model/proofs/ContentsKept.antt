@@ -45,6 +45,7 @@ use Rattle.model.specs.Working.{
   nextBlock,
 }
 use Rattle.model.specs.Steps.{Shared, quiet, storing, item, stage, replaced, afterDeciding}
+use Rattle.model.specs.Ranges.{StageOf, Inside}
 use Rattle.model.proofs.Update.{upd, upd-same, upd-other, upd-at, upd-elim}
 use Rattle.model.proofs.View.{
   Status,
@@ -163,8 +164,6 @@ use Rattle.model.proofs.Contents.{
   part,
   PastKind,
   Past,
-  StageOf,
-  Inside,
   Clear,
   OwnAt,
   head,

@@ -50,7 +50,8 @@ use Rattle.model.proofs.Sizes.{Roomy}
 use Rattle.model.proofs.SmallSteps.{Op, ofStage, ofAccesses, ofMoves, ahead, attempt, copyOf, Layout, layout}
 use Rattle.model.proofs.Attempts.{lists, copies, Shape, newCopies}
 use Rattle.model.proofs.Running.{Begun}
-use Rattle.model.proofs.Contents.{StageOf, Inside, Clear}
+use Rattle.model.specs.Ranges.{StageOf, Inside}
+use Rattle.model.proofs.Contents.{Clear}
 use Rattle.model.proofs.Tests.{test}
 
 -- What is left to do behind the read or write that a job is at.

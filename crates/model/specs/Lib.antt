@@ -8,6 +8,7 @@ pub mod Cells
 pub mod Moves
 pub mod Steps
 pub mod Machine
+pub mod Ranges
 pub mod Entries
 pub mod History
 pub mod Demand3
