@@ -27,10 +27,15 @@ use Rattle.model.proofs.Words.{update-length}
 pub length-more : (es : List Entry) (e : Entry) → length (es ++ (e ∷ [])) ≡ length es + 1
 length-more es e = length-append es (e ∷ [])
 
--- An entry that was there is still there.
+-- An entry that was there is still there with more entries behind it.
+pub entry-within :
+    (es more : List Entry) (c : ℕ) → 1 ≤ c → c ≤ length es → entryAt (es ++ more) c ≡ entryAt es c
+entry-within es more c l h = List·getD-append es more _ (c - 1) (omega arith)
+
+-- So it is with one more.
 pub entry-before :
     (es : List Entry) (e : Entry) (c : ℕ) → 1 ≤ c → c ≤ length es → entryAt (es ++ (e ∷ [])) c ≡ entryAt es c
-entry-before es e c l h = List·getD-append es (e ∷ []) _ (c - 1) (omega arith)
+entry-before es e = entry-within es (e ∷ [])
 
 -- The entry of the last number is the last one.
 pub entry-last : (es : List Entry) (e : Entry) (c : ℕ) → c ≡ length es + 1 → entryAt (es ++ (e ∷ [])) c ≡ e

@@ -51,7 +51,7 @@ use Rattle.model.proofs.Attempts.{Shape, Own}
 use Rattle.model.proofs.Running.{copy-lt}
 use Rattle.model.proofs.Pigeonhole.{fewer}
 use Rattle.model.proofs.RunsSeen.{ahead-list, ahead-copy, length-replaced}
-use Rattle.model.proofs.Growing.{length-more, entry-before}
+use Rattle.model.proofs.Growing.{length-more, entry-within}
 use Rattle.model.proofs.Epochs.{kind, HelpHolds, FreshHolds}
 use Rattle.model.proofs.Contents.{part, OwnAt, head, FreshContents}
 use Rattle.model.proofs.Reached.{Inv, always}
@@ -211,9 +211,9 @@ module _ (plan : Plan) (ok : Sound plan) where
           → length (replaced (inRow (m .addrlist) p) (inRow (m .oldlist) p) (w .dirty) (w .numblks)) ≤ 8
       unfolding stateIn
       few-replaced e t =
-          let ev : w .ver ≡ m .cells .v = same-version (m .cells .v) (w .ver) (search (and-l, and-r)) in
+          let ev : w .ver ≡ m .cells .v = same-version (m .cells .v) (w .ver) (search and-l) in
           let f : m .cells .v .flag ≡ true = ap (λ (x : Version). x .flag) (sym ev) ∙ rw e at helping in
-          let u : same (sharedIn plan m .stat (w .hid)) (negsuc 0) ≡ true = search (and-l, and-r) in
+          let u : same (sharedIn plan m .stat (w .hid)) (negsuc 0) ≡ true = search and-r in
           let c : w .hid ≡ head plan (s .sh) (A .layers .memory) (s .job) = rw e at (knows ev f) in
           let l =
           (rw e at (holds ev f))
@@ -225,6 +225,50 @@ module _ (plan : Plan) (ok : Sound plan) where
             l .0 .own .room,
             ok .copies,
           )
+
+      module _ (at-commit : w .place ≡ Place.H42) (done : itemOf plan m p .done ≡ true) where
+        -- H42 done: its condition holds.
+        may-commit : mayCommit plan (sharedIn plan m) p w ≡ true
+        unfolding itemOf item
+        may-commit =
+            test (λ (o : Out). o .done ≡ true → mayCommit plan (sharedIn plan m) p w ≡ true) _ _ _ (λ t _. t)
+            (λ _ f. absurd (false≢true f))
+            (rw at-commit at done)
+
+        -- The job that it helps is the chief, and so active.
+        helped-active : isActive (s .job (w .hid) .place) ≡ true
+        unfolding stateIn
+        helped-active =
+            let t = may-commit in
+            let ev : w .ver ≡ m .cells .v = same-version (m .cells .v) (w .ver) (search and-l) in
+            let f : m .cells .v .flag ≡ true =
+            ap (λ (x : Version). x .flag) (sym ev) ∙ (rw at-commit at helping) .0 in
+            let c : w .hid ≡ head plan (s .sh) (A .layers .memory) (s .job) = (rw at-commit at (knows ev f)) .0 in
+            rw c
+            (A .layers .cards .whole .announced-active _
+            (A .layers .cards .whole .named-announced (m .cells .v .count % plan .sizes .cards)
+            (A .layers .epochs .whole .named f)
+            .1))
+
+        -- Its latest call is one of the entries.
+        call-named :
+            (more : List Entry)
+            → (jobOf (es ++ more) (latest (w .hid) (r .history)) ≡ w .hid)
+            × (updateOf (es ++ more) (latest (w .hid) (r .history)) ≡ workOf m (w .hid) .update)
+        call-named more =
+            let on = helped-active in
+            let told = A .layers .told in
+            let some : latest (w .hid) (r .history) ≢ 0 = told .has-call (w .hid) on in
+            let few : latest (w .hid) (r .history) ≤ length (r .history) = told .latest-in (w .hid) in
+            let short : length (r .history) ≤ length es = told .short in
+            let same-entry =
+            entry-within es more (latest (w .hid) (r .history)) (omega arith) (omega arith) in
+            (
+              ap (λ (x : Entry). x .first) same-entry ∙ told .job-of (w .hid) some,
+              ap (λ (x : Entry). x .second) same-entry
+                  ∙ told .update-of (w .hid) on
+                  ∙ ap (λ (x : Working). x .update) (job-seen plan m (w .hid) (A .layers .cards .whole .in-plan _ on)),
+            )
 
   -- One more entry.
   entry-bounded :
@@ -316,3 +360,15 @@ module _ (plan : Plan) (ok : Sound plan) where
           go : Dec (k < plan .sizes .jobs) → k < plan .sizes .jobs
           go (yes l) = l
           go (no l) = absurd (true≢false (rw e at (B .others k (omega arith))))
+
+  -- Where H42 is done, the latest call of job hid is an entry that names that job, and the update of its record; more
+  -- entries behind do not change that.
+  pub commit-named :
+      (es more : List Entry) (p : ℕ) → p < plan .sizes .jobs
+      → workOf (runOf plan es .machine) p .place ≡ Place.H42
+      → itemOf plan (runOf plan es .machine) p .done ≡ true
+      → (jobOf (es ++ more) (latest (workOf (runOf plan es .machine) p .hid) (runOf plan es .history))
+      ≡ workOf (runOf plan es .machine) p .hid)
+      × (updateOf (es ++ more) (latest (workOf (runOf plan es .machine) p .hid) (runOf plan es .history))
+      ≡ workOf (runOf plan es .machine) (workOf (runOf plan es .machine) p .hid) .update)
+  commit-named es more p below e d = call-named es (runOf plan es) (always plan ok es) p below e d more
