@@ -113,7 +113,7 @@ use Rattle.model.proofs.Running.{
   live-write,
 }
 use Rattle.model.proofs.Settling.{listed-at, reclaim}
-use Rattle.model.proofs.Pigeonhole.{at-most, fewer}
+use Rattle.model.proofs.Pigeonhole.{at-most, fewer-listed}
 use Rattle.model.proofs.Arrays.{length-first-places}
 use Rattle.model.proofs.Words.{word-free, shape-fits, room-fits}
 use Rattle.model.proofs.RunsSeen.{
@@ -544,8 +544,7 @@ module _ (plan : Plan) (ok : Sound plan) (sh : Shared) (job : ℕ → Working)
                         );
                   });
               fits =
-                  let l = fewer (P .blocks) (r .order) (o .distinct) (λ x i. o .in-blocks x (sym (o .order-is x) ∙ i))
-                  k in-blocks (o .order-is k ∙ not-listed) in
+                  let l : length (r .order) < P .blocks = fewer-listed P o k in-blocks not-listed in
                   let q : length (r .order) ≡ job p .numblks = length-table (job p .numblks) addr in
                   let m = ok .blocks in
                   omega arith;

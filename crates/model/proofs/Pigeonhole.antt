@@ -3,9 +3,10 @@
 --
 -- A list of different numbers below n + 1 has at most one more than the same list without n, and what is left is below
 -- n: so it has at most n + 1. Where a list of different numbers below n lacks one, that number can be added: so the
--- list has fewer than n. The values of a function that maps the numbers below n into themselves, no two to one, are n
--- different numbers below n, so none is missing. Such a function gives the number at each place of the copy lists and
--- the bank, where number i of job q's copy list has place q C + i, and block k has place N C + k.
+-- list has fewer than n. A run lists no block twice: so where it has not listed one, it lists fewer than all. The
+-- values of a function that maps the numbers below n into themselves, no two to one, are n different numbers below n,
+-- so none is missing. Such a function gives the number at each place of the copy lists and the bank, where number i of
+-- job q's copy list has place q C + i, and block k has place N C + k.
 use Prim.Native.Nat.{ℕ, zero, suc, _+_, _*_, _-_, _/_, _%_, _≤_, _<_}
 use native.Mathlib.Omega.{arith}
 use native.Mathlib.Nat.{div-add-mod', mod-lt, div-lt-iff-lt-mul, mul-zero, sub-lt-left-of-lt-add, add-sub-of-le}
@@ -18,8 +19,8 @@ use lib.ListN.{length}
 use borrow.Author.Tests.{eqb-true, eq-eqb, ltb-true, ltb-false}
 use Rattle.format.specs.Plan.{isIn}
 use Rattle.model.specs.Lists.{select}
-use Rattle.model.proofs.SmallSteps.{Layout}
-use Rattle.model.proofs.Attempts.{NoDup, NoDup.nil, NoDup.cons, stock, Stock}
+use Rattle.model.proofs.SmallSteps.{Attempt, Layout}
+use Rattle.model.proofs.Attempts.{NoDup, NoDup.nil, NoDup.cons, stock, Stock, Own}
 use Rattle.model.proofs.Settling.{listed-place, selected-at, nodup-select}
 
 -- Whether a number is not n.
@@ -88,6 +89,13 @@ fewer n ks d all k hk f = omega (arith, at-most n (k ∷ ks) (cons f d) more)
         go : (b : Bool) → eqb k l ≡ b → (b || isIn l ks) ≡ true → l < n
         go true e m = rw (← eqb-true k l e) hk
         go false e m = all l m
+
+-- A run that has not listed a block lists fewer than all.
+pub fewer-listed :
+    (P : Layout) {cp : ℕ → ℕ} {r : Attempt} → Own P cp r → (k : ℕ) → k < P .blocks → r .listed k ≡ false
+    → length (r .order) < P .blocks
+fewer-listed P {cp} {r} o k h f =
+    fewer (P .blocks) (r .order) (o .distinct) (λ x i. o .in-blocks x (sym (o .order-is x) ∙ i)) k h (o .order-is k ∙ f)
 
 -- The values of a function below n.
 unfoldable values : (ℕ → ℕ) → ℕ → List ℕ

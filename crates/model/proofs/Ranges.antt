@@ -1,6 +1,6 @@
 -- Every run stays in the ranges of specs/Ranges.antt, and what H42 commits is a call that the entries name.
 --
--- In plain words. The numbers stay in their ranges by themselves (RangesKept.antt), but for three things, which the
+-- In plain words. The numbers stay in their ranges by themselves (BoundedKept.antt), but for three things, which the
 -- layers of the invariant say of every run. Stat[N] is N (first layer). A job inside a move, also one that has been
 -- overtaken, is at a read or write that is there, and has room: its row lists each block once, so a block not listed
 -- yet has a place among 16, and the first writes that are still to come have copy blocks left (third layer, Own). Where
@@ -10,17 +10,16 @@
 -- entries told of, and names the job and its update (fifth layer), and more entries behind these change none of them.
 --
 -- Assumes a sound plan.
-use Prim.Native.Nat.{ℕ, _+_, _-_, _≤_, _<_, _%_}
+use Prim.Native.Nat.{ℕ, _+_, _≤_, _<_, _%_}
 use mathlib.Core.Path.{_≡_, refl, sym, _∙_, ap, subst}
 use mathlib.Core.Logic.{_≢_}
-use mathlib.Core.Bool.{Bool, true, false, true≢false, false≢true}
+use mathlib.Core.Bool.{true, false, true≢false, false≢true}
 use mathlib.Core.List.{List, [], _∷_, _++_, append-nil, append-assoc, foldl-append}
 use mathlib.Core.Option.{Option, none, some}
 use native.Mathlib.Decide.{decLt}
 use native.Mathlib.Omega.{arith}
-use lib.Dec.{eqb}
-use lib.IntN.{ℤ, pos, negsuc}
-use lib.ListN.{length, getD}
+use lib.IntN.{pos, negsuc}
+use lib.ListN.{length}
 use borrow.Author.Tests.{ne-eqb}
 use Rattle.format.specs.declared.Entry.{Entry}
 use Rattle.format.specs.Plan.{Plan}
@@ -37,33 +36,26 @@ use Rattle.model.specs.declared.Judgement.{Judgement}
 use Rattle.model.specs.Places.{isActive}
 use Rattle.model.specs.Status.{same}
 use Rattle.model.specs.Memory.{jobOf, updateOf}
-use Rattle.model.specs.Moves.{access, block}
+use Rattle.model.specs.Moves.{block}
 use Rattle.model.specs.Steps.{item, mayDecide, mayCommit, replaced}
 use Rattle.model.specs.Machine.{Machine, inRow, sharedIn, workOf, itemOf}
 use Rattle.model.specs.Entries.{judge, acted}
-use Rattle.model.specs.History.{Event, latest, Run, unlessRefused, begun, judged, entered, runOf}
-use Rattle.model.specs.Ranges.{Inside, RoomFor, AtPlace, WorkRanges, Ranges}
+use Rattle.model.specs.History.{latest, Run, unlessRefused, begun, judged, entered, runOf}
+use Rattle.model.specs.Ranges.{Inside, RoomFor, AtPlace, Ranges}
 use Rattle.model.proofs.View.{isUndecided, State, stateIn, finished-is, undecided-is}
 use Rattle.model.proofs.Lists.{job-seen, call-judged, step-judged}
 use Rattle.model.proofs.Tests.{test, and-l, and-r, same-version}
 use Rattle.model.proofs.SmallSteps.{ahead, attempt, copyOf, layout}
 use Rattle.model.proofs.Attempts.{Shape, Own}
 use Rattle.model.proofs.Running.{copy-lt}
-use Rattle.model.proofs.Pigeonhole.{fewer}
+use Rattle.model.proofs.Pigeonhole.{fewer-listed}
 use Rattle.model.proofs.RunsSeen.{ahead-list, ahead-copy, length-replaced}
 use Rattle.model.proofs.Growing.{length-more, entry-within}
 use Rattle.model.proofs.Epochs.{kind, HelpHolds, FreshHolds}
 use Rattle.model.proofs.Contents.{part, OwnAt, head, FreshContents}
 use Rattle.model.proofs.Reached.{Inv, always}
-use Rattle.model.proofs.RangesKept.{
-  Standing,
-  WorkBounded,
-  Bounded,
-  bounded-later,
-  opening-bounded,
-  call-bounded,
-  item-bounded,
-}
+use Rattle.model.proofs.Bounded.{Standing, Bounded, bounded-later, opening-bounded, call-bounded}
+use Rattle.model.proofs.BoundedKept.{item-bounded}
 
 -- What a place says by itself, and what the layers say of a job inside a move, is what its place says.
 at-place :
@@ -112,12 +104,8 @@ module _ (plan : Plan) (ok : Sound plan) (addr : ℕ → ℕ) (w : Working) wher
   room Stage.Check i o = tt
   room Stage.List i o =
       λ e.
-      let l =
-      fewer (plan .sizes .blocks) (table (w .numblks) addr) (o .distinct)
-      (λ x y. o .in-blocks x (sym (o .order-is x) ∙ y))
-      (block plan w)
-      (block-in o)
-      (o .order-is (block plan w) ∙ rw e) in
+      let l : length (table (w .numblks) addr) < plan .sizes .blocks =
+      fewer-listed (layout plan) o (block plan w) (block-in o) (rw e) in
       let q : length (table (w .numblks) addr) ≡ w .numblks = length-table (w .numblks) addr in
       let m = ok .blocks in
       omega arith
@@ -262,8 +250,7 @@ module _ (plan : Plan) (ok : Sound plan) where
             let few : latest (w .hid) (r .history) ≤ length (r .history) = told .latest-in (w .hid) in
             let short : length (r .history) ≤ length es = told .short in
             let same-entry =
-            entry-within es more (latest (w .hid) (r .history)) (omega arith) (omega arith) in
-            (
+            entry-within es more (latest (w .hid) (r .history)) (omega arith) (omega arith) in (
               ap (λ (x : Entry). x .first) same-entry ∙ told .job-of (w .hid) some,
               ap (λ (x : Entry). x .second) same-entry
                   ∙ told .update-of (w .hid) on
