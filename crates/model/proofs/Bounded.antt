@@ -9,7 +9,6 @@
 -- Assumes a sound plan for the opening.
 use Prim.Native.Nat.{ℕ, _+_, _*_, _≤_, _<_}
 use mathlib.Core.Path.{_≡_, refl}
-use mathlib.Core.Logic.{_≢_}
 use mathlib.Core.Bool.{true, false, false≢true}
 use mathlib.Core.List.{List, []}
 use native.Mathlib.Nat.{mul-le-mul, le-refl}
@@ -40,10 +39,19 @@ use Rattle.model.specs.Machine.{
 }
 use Rattle.model.specs.Entries.{acted}
 use Rattle.model.specs.Ranges.{StatusIn, Names, mostNumbers, CellRanges, RowRanges}
-use Rattle.model.proofs.Every.{Below, RowsBelow, every-set, every-table, every-replicate, below-first, row-set, place-set}
+use Rattle.model.proofs.Every.{
+  Below,
+  RowsBelow,
+  every-set,
+  every-table,
+  every-replicate,
+  below-first,
+  row-set,
+  place-set,
+}
 
--- The numbers of a working record after at most n entries, whatever its place: lid, hid, the count of ver, the count of
--- listed blocks, the numbers of its blocks and its copy blocks, and the line read.
+-- The numbers of a working record after at most n entries, whatever its place: lid, hid, the count of ver, how many
+-- blocks are listed, the numbers of its blocks and its copy blocks, and the address and new number of the line read.
 pub record Numbers (plan : Plan) (n l h v c : ℕ) (bs cs : List ℕ) (a b : ℕ) : Type 0 where
   pub lid : l ≤ plan .sizes .jobs
   pub hid : h ≤ plan .sizes .jobs

@@ -2,8 +2,8 @@
 --
 -- In plain words. What an item stores, and what it puts in its job's record, is in range. A job leaves H17 for H21 or
 -- H32 because Stat[hid] is not N, and Stat[N] is N, so hid is a job; it leaves H32 for H34 because the status that it
--- took to wid is neither −1 nor N, so wid names a job; and from H36 to H41 line j is one of those counted, because that
--- is asked before each line.
+-- took to wid is neither −1 nor N, so wid names a job; and from H36 to H41 line j is one of those counted, because
+-- that is asked before each line.
 --
 -- Assumes a sound plan, that Stat[N] is N, and of a job that is about to list a block that the block's address and the
 -- place in the row are below 16: the layers of the invariant say so (Ranges.antt).
@@ -36,15 +36,26 @@ use Rattle.model.specs.Machine.{Machine, sharedIn, workOf, carriedOut, i
 use Rattle.model.specs.Ranges.{StatusIn, Names, mostNumbers, RoomFor}
 use Rattle.model.proofs.Tests.{test, onward-elim, begin-elim, or-l, or-r}
 use Rattle.model.proofs.Every.{Below, every-set, every-other, below-first, below-replaced}
-use Rattle.model.proofs.Bounded.{Numbers, NumbersOf, numbers, Standing, Bounded, StoreBounded, numbers-later, bounded-later, with-work, stored-bounded}
+use Rattle.model.proofs.Bounded.{
+  Numbers,
+  NumbersOf,
+  numbers,
+  Standing,
+  Bounded,
+  StoreBounded,
+  numbers-later,
+  bounded-later,
+  with-work,
+  stored-bounded,
+}
 
 -- A status that is neither −1 nor N is the number of one of sixteen jobs.
 names : (n : ℕ) → n ≤ 16 → (x : ℤ) → StatusIn n x → same x undecided ≡ false → same x (pos n) ≡ false → Names x
 names n few (pos w) h u f = let z : w ≢ n = eqb-false w n f in omega arith
 names n few (negsuc a) h u f = absurd (eqb-false a 0 u h)
 
-module _ (plan : Plan) (ok : Sound plan) (n : ℕ) (m : Machine) (B : Bounded plan n m) (p : ℕ) (below : p < plan .sizes .jobs)
-    (on : isActive (workOf m p .place) ≡ true)
+module _ (plan : Plan) (ok : Sound plan) (n : ℕ) (m : Machine) (B : Bounded plan n m) (p : ℕ)
+    (below : p < plan .sizes .jobs) (on : isActive (workOf m p .place) ≡ true)
     (last : same (sharedIn plan m .stat (plan .sizes .jobs)) (pos (plan .sizes .jobs)) ≡ true)
     (lists :
     workOf m p .place ≡ Place.Move Stage.List
@@ -69,7 +80,8 @@ module _ (plan : Plan) (ok : Sound plan) (n : ℕ) (m : Machine) (B : Bounded pl
     store : StoreBounded plan (n + 1) (o .store)
 
   -- It stores nothing.
-  on-to : (x : Working) → x .update ≡ w .update → NumbersOf plan (n + 1) x → Standing plan x (x .place) → Good (quiet x)
+  on-to : (x : Working) → x .update ≡ w .update → NumbersOf plan (n + 1) x → Standing plan x (x .place)
+      → Good (quiet x)
   on-to x e i s = record { update = e; numbers = i; standing = s; store = tt }
 
   -- It stores what is in range.
@@ -201,11 +213,7 @@ module _ (plan : Plan) (ok : Sound plan) (n : ℕ) (m : Machine) (B : Bounded pl
   items Place.H22 e h = puts _ _ _ refl I h tt
   items Place.H25 e h =
       test Good _ _ _
-      (λ _.
-      puts _ _ _ refl
-      (run-to _ _ _ (I .numblks) (I .curr) reclaimed-to)
-      h
-      (omega arith))
+      (λ _. puts _ _ _ refl (run-to _ _ _ (I .numblks) (I .curr) reclaimed-to) h (omega arith))
       (λ _. on-to _ refl I h)
   items Place.H32 e h =
       test Good _ _ _ (λ _. on-to _ refl I tt)

@@ -1,5 +1,5 @@
--- A fact of whatever is read from a list, what is read past its end too: lists that have it, and what keeps it. Numbers
--- below a bound are the case that the ranges of the machine's numbers need. Assumes nothing.
+-- A fact of whatever is read from a list, what is read past its end too: which lists have it, and what keeps it. The
+-- ranges of the machine's numbers need it of numbers below a bound. Assumes nothing.
 use Prim.Native.Nat.{ℕ, zero, suc, _+_, _<_}
 use mathlib.Core.List.{List, [], _∷_, _++_}
 use native.Mathlib.Omega.{arith}

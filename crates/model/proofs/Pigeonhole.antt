@@ -95,7 +95,8 @@ pub fewer-listed :
     (P : Layout) {cp : ℕ → ℕ} {r : Attempt} → Own P cp r → (k : ℕ) → k < P .blocks → r .listed k ≡ false
     → length (r .order) < P .blocks
 fewer-listed P {cp} {r} o k h f =
-    fewer (P .blocks) (r .order) (o .distinct) (λ x i. o .in-blocks x (sym (o .order-is x) ∙ i)) k h (o .order-is k ∙ f)
+    fewer (P .blocks) (r .order) (o .distinct) (λ x i. o .in-blocks x (sym (o .order-is x) ∙ i)) k h
+    (o .order-is k ∙ f)
 
 -- The values of a function below n.
 unfoldable values : (ℕ → ℕ) → ℕ → List ℕ

@@ -3,11 +3,13 @@
 -- In plain words. The numbers stay in their ranges by themselves (BoundedKept.antt), but for three things, which the
 -- layers of the invariant say of every run. Stat[N] is N (first layer). A job inside a move, also one that has been
 -- overtaken, is at a read or write that is there, and has room: its row lists each block once, so a block not listed
--- yet has a place among 16, and the first writes that are still to come have copy blocks left (third layer, Own). Where
--- H25 is about to decide, the job is fresh and its update undecided; as many numbers are replaced as blocks are
--- written, which is as many as copy blocks are used, at most C (third layer, Live). As for H42: where it is done, hid is
--- the chief, which is announced and so active (first and second layer); the latest call of an active job is one of the
--- entries told of, and names the job and its update (fifth layer), and more entries behind these change none of them.
+-- yet has a place among 16, and the first writes that are still to come have copy blocks left (third layer, Own).
+-- Where H25 is about to decide, the job is fresh and its update undecided; as many numbers are replaced as blocks are
+-- written, which is as many as copy blocks are used, at most C (third layer, Live).
+--
+-- Where H42 is done, hid is the chief, which is announced and so active (first and second layer). The latest call of
+-- an active job is one of the entries told of, and names the job and its update (fifth layer); more entries behind
+-- these change none of them.
 --
 -- Assumes a sound plan.
 use Prim.Native.Nat.{ℕ, _+_, _≤_, _<_, _%_}
@@ -51,8 +53,8 @@ use Rattle.model.proofs.Running.{copy-lt}
 use Rattle.model.proofs.Pigeonhole.{fewer-listed}
 use Rattle.model.proofs.RunsSeen.{ahead-list, ahead-copy, length-replaced}
 use Rattle.model.proofs.Growing.{length-more, entry-within}
-use Rattle.model.proofs.Epochs.{kind, HelpHolds, FreshHolds}
-use Rattle.model.proofs.Contents.{part, OwnAt, head, FreshContents}
+use Rattle.model.proofs.Epochs.{InEpoch}
+use Rattle.model.proofs.Contents.{head, JobContents}
 use Rattle.model.proofs.Reached.{Inv, always}
 use Rattle.model.proofs.Bounded.{Standing, Bounded, bounded-later, opening-bounded, call-bounded}
 use Rattle.model.proofs.BoundedKept.{item-bounded}
@@ -90,10 +92,7 @@ module _ (plan : Plan) (ok : Sound plan) (addr : ℕ → ℕ) (w : Working) wher
   block-in :
       Own (layout plan) (copyOf w) (attempt (ahead plan Stage.List w) addr w) → block plan w < plan .sizes .blocks
   block-in o =
-      subst
-      (λ os.
-      Shape (layout plan) os (attempt os addr w .listed) (attempt os addr w .wrote))
-      (ahead-list plan w)
+      subst (λ os. Shape (layout plan) os (attempt os addr w .listed) (attempt os addr w .wrote)) (ahead-list plan w)
       (o .shape)
       .0
 
@@ -120,7 +119,7 @@ module _ (plan : Plan) (ok : Sound plan) (addr : ℕ → ℕ) (w : Working) wher
 
 module _ (plan : Plan) (ok : Sound plan) where
   module _ (es : List Entry) (r : Run) (A : Inv plan es r) where
-    -- The machine.
+    -- The machine that the run has reached.
     abbrev m : Machine
     m = r .machine
 
@@ -134,51 +133,27 @@ module _ (plan : Plan) (ok : Sound plan) where
     last = sym (finished-is (plan .sizes .jobs) _) ∙ A .layers .cards .whole .none
 
     module _ (p : ℕ) (below : p < plan .sizes .jobs) where
-      -- Its record.
+      -- Job p's record.
       abbrev w : Working
       w = workOf m p
 
-      -- What the third layer says of it, whatever V is.
-      own : OwnAt plan (s .sh .addrlist p) w (part (w .place))
-      own =
-          subst (λ (x : Working). OwnAt plan (s .sh .addrlist p) x (part (x .place))) (job-seen plan m p below)
-          (A .layers .contents .each p .own)
+      -- What the second layer says of it.
+      epoch : InEpoch (layout plan) (s .sh .v) (s .sh .ann) (s .sh .stat) p w
+      epoch =
+          subst (InEpoch (layout plan) (s .sh .v) (s .sh .ann) (s .sh .stat) p) (job-seen plan m p below)
+          (A .layers .epochs .each p)
 
-      -- What the second layer says of it: under which flag it helps, and, where its version is V, whom.
-      helping : HelpHolds (layout plan) w (kind (w .place))
-      helping =
-          subst (λ (x : Working). HelpHolds (layout plan) x (kind (x .place))) (job-seen plan m p below)
-          (A .layers .epochs .each p .flag)
+      -- What the third layer says of it.
+      contents : JobContents plan (s .sh) (A .layers .memory) (s .job) p w
+      contents =
+          subst (JobContents plan (s .sh) (A .layers .memory) (s .job) p) (job-seen plan m p below)
+          (A .layers .contents .each p)
 
-      -- Whom it helps, where its version is V.
-      knows :
-          w .ver ≡ s .sh .v → s .sh .v .flag ≡ true
-          → FreshHolds (layout plan) (s .sh .v) (s .sh .ann) (s .sh .stat) w (kind (w .place))
-      knows =
-          subst
-          (λ (x : Working).
-          x .ver ≡ s .sh .v → s .sh .v .flag ≡ true
-          → FreshHolds (layout plan) (s .sh .v) (s .sh .ann) (s .sh .stat) x (kind (x .place)))
-          (job-seen plan m p below)
-          (A .layers .epochs .each p .fresh)
-
-      -- What the third layer says of it where its version is V.
-      holds :
-          w .ver ≡ s .sh .v → s .sh .v .flag ≡ true
-          → FreshContents plan (s .sh) (A .layers .memory) (s .job) p w (part (w .place))
-      holds =
-          subst
-          (λ (x : Working).
-          x .ver ≡ s .sh .v → s .sh .v .flag ≡ true
-          → FreshContents plan (s .sh) (A .layers .memory) (s .job) p x (part (x .place)))
-          (job-seen plan m p below)
-          (A .layers .contents .each p .fresh)
-
-      -- What it says of a job inside a move.
+      -- What that is where it is inside a move.
       moving :
           (st : Stage) → w .place ≡ Place.Move st
           → Inside plan st w × Own (layout plan) (copyOf w) (attempt (ahead plan st w) (s .sh .addrlist p) w)
-      moving st e = rw e at own
+      moving st e = rw e at (contents .own)
 
       -- A job inside a move is at a read or write that is there, and has room.
       has-room : (st : Stage) → w .place ≡ Place.Move st → Inside plan st w × RoomFor plan st w
@@ -200,11 +175,11 @@ module _ (plan : Plan) (ok : Sound plan) where
       unfolding stateIn
       few-replaced e t =
           let ev : w .ver ≡ m .cells .v = same-version (m .cells .v) (w .ver) (search and-l) in
-          let f : m .cells .v .flag ≡ true = ap (λ (x : Version). x .flag) (sym ev) ∙ rw e at helping in
+          let f : m .cells .v .flag ≡ true = ap (λ (x : Version). x .flag) (sym ev) ∙ rw e at (epoch .flag) in
           let u : same (sharedIn plan m .stat (w .hid)) (negsuc 0) ≡ true = search and-r in
-          let c : w .hid ≡ head plan (s .sh) (A .layers .memory) (s .job) = rw e at (knows ev f) in
+          let c : w .hid ≡ head plan (s .sh) (A .layers .memory) (s .job) = rw e at (epoch .fresh ev f) in
           let l =
-          (rw e at (holds ev f))
+          (rw e at (contents .fresh ev f))
           (ap (λ k. isUndecided (s .sh .stat k)) (sym c) ∙ undecided-is (plan .sizes .jobs) _ ∙ u) in
           omega (
             arith,
@@ -230,8 +205,9 @@ module _ (plan : Plan) (ok : Sound plan) where
             let t = may-commit in
             let ev : w .ver ≡ m .cells .v = same-version (m .cells .v) (w .ver) (search and-l) in
             let f : m .cells .v .flag ≡ true =
-            ap (λ (x : Version). x .flag) (sym ev) ∙ (rw at-commit at helping) .0 in
-            let c : w .hid ≡ head plan (s .sh) (A .layers .memory) (s .job) = (rw at-commit at (knows ev f)) .0 in
+            ap (λ (x : Version). x .flag) (sym ev) ∙ (rw at-commit at (epoch .flag)) .0 in
+            let c : w .hid ≡ head plan (s .sh) (A .layers .memory) (s .job) =
+            (rw at-commit at (epoch .fresh ev f)) .0 in
             rw c
             (A .layers .cards .whole .announced-active _
             (A .layers .cards .whole .named-announced (m .cells .v .count % plan .sizes .cards)
@@ -264,9 +240,11 @@ module _ (plan : Plan) (ok : Sound plan) where
   unfolding entered acted
   entry-bounded es r e A B = go (r .refusal)
     where
+      -- the state stays
       stays : Bounded plan (length es + 1) (r .machine)
       stays = bounded-later plan (length es) (r .machine) B
 
+      -- by what the entry comes to
       by :
           (j : Judgement) → judge plan (r .machine) e ≡ j
           → Bounded plan (length es + 1) (acted plan (r .machine) j)
@@ -281,6 +259,7 @@ module _ (plan : Plan) (ok : Sound plan) where
           (lists es r A p (c .has-job))
       by (Judgement.Refused x) z = stays
 
+      -- by whether the run has stopped
       go :
           (f : Option Refusal)
           → Bounded plan (length es + 1)
@@ -336,6 +315,7 @@ module _ (plan : Plan) (ok : Sound plan) where
         reclaims = λ p below. few-replaced es (runOf plan es) (always plan ok es) p below;
       }
     where
+      -- what an entry keeps by itself
       B : Bounded plan (length es) (runOf plan es .machine)
       B = run-bounded es
 
