@@ -77,7 +77,7 @@ at-most (suc n) ks d all =
         omega arith
 
 -- Where a number below n is missing, they are fewer than n.
-pub fewer :
+fewer :
     (n : ℕ) (ks : List ℕ) → NoDup ks → ((k : ℕ) → isIn k ks ≡ true → k < n) → (k : ℕ) → k < n → isIn k ks ≡ false
     → length ks < n
 fewer n ks d all k hk f = omega (arith, at-most n (k ∷ ks) (cons f d) more)
