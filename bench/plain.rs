@@ -1,0 +1,456 @@
+//! Document 01 in plain Rust: the text's check (numbers 1 to 10), the machine (the step list A1 to H42, refusals 11 to
+//! 14) and the report (refusal 15). It is an independent implementation, written from the document alone; the proved
+//! one is compared with it, in its reports and in its time. Nothing here is proved.
+
+/// The most cards, jobs, blocks, words of a block, and blocks that one update may write.
+const CARDS: usize = 8;
+const JOBS: usize = 16;
+const BLOCKS: usize = 16;
+const WORDS: usize = 16;
+const WRITES: usize = 8;
+
+/// What a run answers: a number of the table, its line, and the length of the report in the lent buffer.
+#[derive(Clone, Copy, Debug, PartialEq, Eq)]
+pub struct Ended {
+    pub number: usize,
+    pub line: usize,
+    pub length: usize,
+}
+
+/// Checks a text, runs its entries, and writes the report into the leading part of the buffer.
+pub fn run(text: &[u8], buffer: &mut [u8]) -> Ended {
+    let plan = match read(text) {
+        Ok(plan) => plan,
+        Err((number, line)) => return Ended { number, line, length: 0 },
+    };
+    let mut machine = Machine::new(&plan);
+    let (mut number, mut line) = (0, plan.lines);
+    for (index, &entry) in plan.entries.iter().enumerate() {
+        if let Err(refusal) = machine.entry(&plan, entry, index + 1) {
+            (number, line) = (refusal, plan.lines - plan.entries.len() + index + 1);
+            break;
+        }
+    }
+    let report = machine.report(&plan, number, line);
+    match buffer.get_mut(..report.len()) {
+        Some(part) => part.copy_from_slice(&report),
+        None => return Ended { number: 15, line: 0, length: 0 },
+    }
+    Ended { number, line, length: report.len() }
+}
+
+/// A word of the memory: its block, and its place in the block.
+#[derive(Clone, Copy)]
+struct Word { block: usize, offset: usize }
+
+/// A move: `to` becomes `plus`, added to the word `from` where the move reads. A copy adds 0; a set does not read.
+#[derive(Clone, Copy)]
+struct Move { reads: bool, from: Word, to: Word, plus: u32 }
+
+/// An entry of the schedule.
+#[derive(Clone, Copy)]
+enum Entry { Call { job: usize, update: usize }, Step { card: usize } }
+
+/// A text as read: P, N, B, S and C, the lists that follow, and the count of all lines.
+#[derive(Default)]
+struct Plan {
+    cards: usize, job_count: usize, blocks: usize, words: usize, writes: usize,
+    jobs: Vec<(usize, usize)>, // cards and priorities
+    memory: Vec<u32>,
+    updates: Vec<Vec<Move>>,
+    entries: Vec<Entry>,
+    lines: usize,
+}
+
+/// How far a text is read: which line comes next, with Moves for after the first update and before any entry.
+#[derive(Clone, Copy, PartialEq, PartialOrd)]
+enum Stage { Plan, Jobs, Blocks, Updates, Moves, Entries }
+
+/// The plan so far, how far the text is read, and a bit for each block that the latest update writes.
+struct Reader { plan: Plan, stage: Stage, written: u32 }
+
+/// Refuses with the given number where the condition does not hold.
+fn demand(condition: bool, number: usize) -> Result<(), usize> {
+    if condition { Ok(()) } else { Err(number) }
+}
+
+/// The number that a field holds, if it is a good one.
+fn number(field: &[u8]) -> Option<u32> {
+    if let [] | [b'0', _, ..] = field { return None; }
+    field.iter().try_fold(0u32, |value, byte| {
+        let digit = byte.wrapping_sub(b'0');
+        if digit < 10 { value.checked_mul(10)?.checked_add(u32::from(digit)) } else { None }
+    })
+}
+
+/// The numbers of a line whose kind has K of them.
+fn numbers<'a, const K: usize>(mut fields: impl Iterator<Item = &'a [u8]>) -> Result<[usize; K], usize> {
+    let mut found = [0; K];
+    for place in &mut found { *place = fields.next().and_then(number).ok_or(4usize)? as usize; }
+    demand(fields.next().is_none(), 4)?;
+    Ok(found)
+}
+
+/// Reads a whole text: the plan, or the number of its first fault and the line.
+fn read(text: &[u8]) -> Result<Plan, (usize, usize)> {
+    if text.len() > 65_536 { return Err((1, 0)); }
+    let mut reader = Reader { plan: Plan::default(), stage: Stage::Plan, written: 0 };
+    for line in text.split_inclusive(|&byte| byte == b'\n') {
+        reader.plan.lines += 1;
+        reader.line(line).map_err(|number| (number, reader.plan.lines))?;
+    }
+    if reader.stage < Stage::Updates { Err((3, reader.plan.lines + 1)) } else { Ok(reader.plan) }
+}
+
+impl Reader {
+    /// Reads one line, by its kind and where it stands.
+    fn line(&mut self, line: &[u8]) -> Result<(), usize> {
+        let line = line.strip_suffix(b"\n").ok_or(2usize)?;
+        let mut fields = line.split(|&byte| byte == b'\t');
+        match (fields.next().unwrap_or_default(), self.stage) {
+            (b"plan", Stage::Plan) => self.plan_line(numbers(fields)?),
+            (b"job", Stage::Jobs) => self.job_line(numbers(fields)?),
+            (b"block", Stage::Blocks) => self.block_line(fields),
+            (b"update", Stage::Updates | Stage::Moves) => {
+                let [] = numbers(fields)?;
+                demand(self.plan.updates.len() < 32, 5)?;
+                self.plan.updates.push(Vec::with_capacity(16));
+                (self.stage, self.written) = (Stage::Moves, 0);
+                Ok(())
+            }
+            (b"copy", Stage::Moves) => numbers(fields).and_then(|[d, a]| self.move_line(d, Some(a), 0)),
+            (b"set", Stage::Moves) => numbers(fields).and_then(|[d, k]| self.move_line(d, None, k)),
+            (b"add", Stage::Moves) => numbers(fields).and_then(|[d, a, k]| self.move_line(d, Some(a), k)),
+            (b"call", Stage::Updates | Stage::Moves | Stage::Entries) =>
+                numbers(fields).and_then(|[job, update]| self.entry_line(Entry::Call { job, update })),
+            (b"step", Stage::Updates | Stage::Moves | Stage::Entries) =>
+                numbers(fields).and_then(|[card]| self.entry_line(Entry::Step { card })),
+            (b"plan" | b"job" | b"block" | b"update" | b"copy" | b"set" | b"add" | b"call" | b"step", _) => Err(3),
+            _ => Err(2),
+        }
+    }
+
+    /// The line `plan P N B S C`.
+    fn plan_line(&mut self, sizes: [usize; 5]) -> Result<(), usize> {
+        let most = [CARDS, JOBS, BLOCKS, WORDS, WRITES];
+        demand(sizes.iter().zip(most).all(|(&size, most)| 1 <= size && size <= most), 6)?;
+        let [cards, job_count, blocks, words, writes] = sizes;
+        self.plan = Plan { cards, job_count, blocks, words, writes, lines: 1, ..Plan::default() };
+        self.stage = Stage::Jobs;
+        Ok(())
+    }
+
+    /// A line `job card priority`.
+    fn job_line(&mut self, [card, priority]: [usize; 2]) -> Result<(), usize> {
+        demand(card < self.plan.cards && priority <= 255, 7)?;
+        demand(!self.plan.jobs.contains(&(card, priority)), 8)?;
+        self.plan.jobs.push((card, priority));
+        if self.plan.jobs.len() == self.plan.job_count { self.stage = Stage::Blocks; }
+        Ok(())
+    }
+
+    /// A line `block` with S words.
+    fn block_line<'a>(&mut self, fields: impl Iterator<Item = &'a [u8]>) -> Result<(), usize> {
+        let plan = &mut self.plan;
+        let length = plan.memory.len() + plan.words;
+        for field in fields { plan.memory.push(number(field).ok_or(4usize)?); }
+        demand(plan.memory.len() == length, 4)?;
+        if length == plan.blocks * plan.words { self.stage = Stage::Updates; }
+        Ok(())
+    }
+
+    /// A move of the latest update: word d becomes word a, if there is one, plus k.
+    fn move_line(&mut self, d: usize, a: Option<usize>, k: usize) -> Result<(), usize> {
+        let (blocks, words) = (self.plan.blocks, self.plan.words);
+        let word = |w: usize| Word { block: w / words, offset: w % words };
+        let (to, from) = (word(d), word(a.unwrap_or(d)));
+        let update = self.plan.updates.last_mut().ok_or(3usize)?;
+        demand(update.len() < 16, 5)?;
+        demand(to.block < blocks && from.block < blocks, 9)?;
+        self.written |= 1 << to.block;
+        demand(self.written.count_ones() as usize <= self.plan.writes, 10)?;
+        update.push(Move { reads: a.is_some(), from, to, plus: k as u32 });
+        Ok(())
+    }
+
+    /// An entry; its numbers are judged when it runs.
+    fn entry_line(&mut self, entry: Entry) -> Result<(), usize> {
+        demand(self.plan.entries.len() < 4_000, 5)?;
+        self.plan.entries.push(entry);
+        self.stage = Stage::Entries;
+        Ok(())
+    }
+}
+
+/// The version V: a count and a flag. The counter points at card count mod P.
+#[derive(Clone, Copy, Default, PartialEq)]
+struct Version { count: usize, flag: bool }
+
+/// A job's status: -1, the number of the job whose run decided its update, or N.
+#[derive(Clone, Copy, Default, PartialEq)]
+enum Status { Pending, Decided(usize), #[default] Nothing }
+
+/// The item that a job does next; a move's read and write have a place for each of their steps.
+#[derive(Clone, Copy, Default, PartialEq)]
+enum Place {
+    #[default]
+    A1, A2, A4, A7, A10, A12, A14, A15, H16, H17, H21, H22, H25, H32, H34, H36, H37, H38, H41, H42,
+    ReadCheck, ReadList, ReadTake, WriteCheck, WriteList, WriteCopy, WriteWord,
+}
+
+/// A listed block: its address, and its old and new block numbers.
+#[derive(Clone, Copy, Default)]
+struct Listed { address: usize, old: usize, new: usize }
+
+/// A job's row: the listed blocks, and their count as published.
+#[derive(Clone, Copy, Default)]
+struct Row { count: usize, listed: [Listed; BLOCKS] }
+
+/// What a run of an update knows of a block: whether it is listed and copied, and the block number it now reads.
+#[derive(Clone, Copy, Default)]
+struct Mark { listed: bool, copied: bool, number: usize }
+
+/// A job's working record.
+#[derive(Default)]
+struct Job {
+    card: usize, priority: usize, active: bool,
+    called: usize, // the update of the latest call
+    place: Place,
+    round: usize,
+    lid: usize, hid: usize, wid: usize,
+    ver: Version,
+    new_flag: bool,
+    update: usize, at: usize, word: u32, // the update run for hid, the move reached, the word last taken
+    marks: [Mark; BLOCKS],
+    listed: usize, used: usize, // how many blocks are listed, and how many copy blocks used
+    count: usize, index: usize, block: Listed, // the count of wid's row, the index reached, what was read there
+}
+
+impl Job {
+    /// The place where the move reached begins, or H22 after the last.
+    fn begin_move(&self, moves: &[Move]) -> Place {
+        match moves.get(self.at) {
+            Some(next) => if next.reads { Place::ReadCheck } else { Place::WriteCheck },
+            None => Place::H22,
+        }
+    }
+
+    /// Lists a word's block with its bank number in the job's row, if it is not yet listed.
+    fn list(&mut self, word: Word, bank: &[usize; BLOCKS], row: &mut Row) {
+        let (mark, number) = (&mut self.marks[word.block], bank[word.block]);
+        if !mark.listed {
+            *mark = Mark { listed: true, copied: false, number };
+            let listed = &mut row.listed[self.listed];
+            (listed.address, listed.old) = (word.block, number);
+            self.listed += 1;
+        }
+    }
+}
+
+/// The machine's state.
+#[derive(Default)]
+struct Machine {
+    version: Version,
+    ann: [usize; CARDS],
+    stat: [Status; JOBS + 1], // that of N is always N
+    trans: [usize; JOBS],
+    bank: [usize; BLOCKS],
+    copies: [[usize; WRITES]; JOBS],
+    rows: [Row; JOBS],
+    store: Vec<u32>,
+    jobs: Vec<Job>,
+    running: [usize; CARDS], // the active job of highest priority on each card, or N
+    commits: Vec<[usize; 3]>, // the entry, the job, and the update of the job's call
+}
+
+impl Machine {
+    /// The opening state.
+    fn new(plan: &Plan) -> Machine {
+        let none = plan.jobs.len();
+        let first = none * plan.writes;
+        let mut store = vec![0; first * plan.words];
+        store.extend(&plan.memory);
+        Machine {
+            ann: [none; CARDS],
+            bank: std::array::from_fn(|k| first + k),
+            copies: std::array::from_fn(|p| std::array::from_fn(|place| p * plan.writes + place)),
+            store,
+            jobs: plan.jobs.iter().map(|&(card, priority)| Job { card, priority, ..Job::default() }).collect(),
+            running: [none; CARDS],
+            ..Machine::default()
+        }
+    }
+
+    /// Runs one entry, or refuses it with the state unchanged.
+    fn entry(&mut self, plan: &Plan, entry: Entry, place: usize) -> Result<(), usize> {
+        match entry {
+            Entry::Call { job: p, update } => {
+                demand(p < self.jobs.len() && update < plan.updates.len(), 11)?;
+                let job = &mut self.jobs[p];
+                demand(!job.active, 12)?;
+                (job.active, job.called, job.place) = (true, update, Place::A1);
+                let card = job.card;
+                self.running[card] = self.first_on(card);
+            }
+            Entry::Step { card } => {
+                demand(card < plan.cards, 13)?;
+                demand(self.running[card] < self.jobs.len(), 14)?;
+                self.step(plan, card, place);
+            }
+        }
+        Ok(())
+    }
+
+    /// The active job of highest priority on a card, or N.
+    fn first_on(&self, card: usize) -> usize {
+        let active = (0..self.jobs.len()).filter(|&p| self.jobs[p].active && self.jobs[p].card == card);
+        active.max_by_key(|&p| self.jobs[p].priority).unwrap_or(self.jobs.len())
+    }
+
+    /// One item of the step list, for the running job p of the card.
+    fn step(&mut self, plan: &Plan, card: usize, entry: usize) {
+        use self::{Place::*, Status::*};
+        let none = plan.jobs.len();
+        let p = self.running[card];
+        let job = &mut self.jobs[p];
+        let next = match job.place {
+            A1 => { self.trans[p] = job.called; A2 }
+            A2 => { self.stat[p] = Pending; job.round = 0; A4 }
+            A4 => { job.lid = self.ann[card]; if job.lid == none { A14 } else { A7 } }
+            A7 => {
+                job.ver = self.version;
+                let elsewhere = job.ver.count % plan.cards != card;
+                let helped = self.stat[job.lid] == Nothing && (elsewhere || !job.ver.flag);
+                if helped { A14 } else if job.ver.flag { H16 } else { A10 }
+            }
+            A10 => {
+                job.hid = self.ann[(job.ver.count + 1) % plan.cards];
+                job.new_flag = self.stat[job.hid] != Nothing;
+                A12
+            }
+            A12 => {
+                let moved = Version { count: job.ver.count + 1, flag: job.new_flag };
+                if self.version == job.ver { self.version = moved; }
+                A7
+            }
+            A14 => { self.ann[card] = p; if job.round == 0 { job.round = 1; A4 } else { A15 } }
+            A15 => {
+                (self.ann[card], job.active) = (none, false);
+                self.running[card] = self.first_on(card);
+                A1
+            }
+            H16 => { job.hid = self.ann[job.ver.count % plan.cards]; H17 }
+            H17 => match self.stat[job.hid] { Nothing => A10, Pending => H21, Decided(_) => H32 },
+            H21 => {
+                (job.update, job.at, job.listed, job.used) = (self.trans[job.hid], 0, 0, 0);
+                job.begin_move(&plan.updates[job.update])
+            }
+            ReadCheck | WriteCheck => {
+                if self.version != job.ver || self.stat[job.hid] != Pending {
+                    job.marks = Default::default();
+                    H32
+                } else if job.place == ReadCheck { ReadList } else { WriteList }
+            }
+            ReadList => { job.list(plan.updates[job.update][job.at].from, &self.bank, &mut self.rows[p]); ReadTake }
+            ReadTake => {
+                let from = plan.updates[job.update][job.at].from;
+                job.word = self.store[job.marks[from.block].number * plan.words + from.offset];
+                WriteCheck
+            }
+            WriteList => { job.list(plan.updates[job.update][job.at].to, &self.bank, &mut self.rows[p]); WriteCopy }
+            WriteCopy => {
+                let mark = &mut job.marks[plan.updates[job.update][job.at].to.block];
+                if !mark.copied {
+                    let (from, copy) = (mark.number * plan.words, self.copies[p][job.used]);
+                    self.store.copy_within(from..from + plan.words, copy * plan.words);
+                    (mark.copied, mark.number) = (true, copy);
+                    job.used += 1;
+                }
+                WriteWord
+            }
+            WriteWord => {
+                let moves = &plan.updates[job.update];
+                let Move { reads, to, plus, .. } = moves[job.at];
+                let word = if reads { job.word.wrapping_add(plus) } else { plus };
+                self.store[job.marks[to.block].number * plan.words + to.offset] = word;
+                job.at += 1;
+                job.begin_move(moves)
+            }
+            H22 => {
+                self.rows[p].count = job.listed;
+                for listed in &mut self.rows[p].listed[..job.listed] { listed.new = job.marks[listed.address].number; }
+                H25
+            }
+            H25 => {
+                if self.version == job.ver && self.stat[job.hid] == Pending {
+                    self.stat[job.hid] = Decided(p);
+                    let listed = self.rows[p].listed[..job.listed].iter();
+                    let replaced = listed.filter(|listed| job.marks[listed.address].copied);
+                    for (place, listed) in self.copies[p].iter_mut().zip(replaced) { *place = listed.old; }
+                }
+                job.marks = Default::default();
+                H32
+            }
+            H32 => if let Decided(wid) = self.stat[job.hid] { job.wid = wid; H34 } else { A10 },
+            H34 => {
+                (job.count, job.index) = (self.rows[job.wid].count, 0);
+                if job.count == 0 { H42 } else { H36 }
+            }
+            H36 => if self.version != job.ver { A10 } else { H37 },
+            H37 => if self.stat[job.hid] == Nothing { A10 } else { H38 },
+            H38 => { job.block = self.rows[job.wid].listed[job.index]; H41 }
+            H41 => {
+                let Listed { address, old, new } = job.block;
+                if self.version == job.ver && self.bank[address] == old { self.bank[address] = new; }
+                job.index += 1;
+                if job.index < job.count { H36 } else { H42 }
+            }
+            H42 => {
+                let hid = job.hid;
+                if self.version == job.ver && self.stat[hid] == Decided(job.wid) {
+                    self.stat[hid] = Nothing;
+                    self.commits.push([entry, hid, self.jobs[hid].called]);
+                }
+                A10
+            }
+        };
+        self.jobs[p].place = next;
+    }
+
+    /// The report of the state, with the number and line that the run ends with.
+    fn report(&self, plan: &Plan, number: usize, line: usize) -> Vec<u8> {
+        let mut report = Vec::with_capacity(4_096);
+        for commit in &self.commits { put_line(&mut report, b"commit", commit.map(|field| field as i64)); }
+        for block in &self.bank[..plan.blocks] {
+            let words = self.store[block * plan.words..][..plan.words].iter();
+            put_line(&mut report, b"block", words.map(|&word| i64::from(word)));
+        }
+        for p in (0..self.jobs.len()).filter(|&p| self.jobs[p].active) {
+            let status = match self.stat[p] {
+                Status::Pending => -1,
+                Status::Decided(by) => by as i64,
+                Status::Nothing => self.jobs.len() as i64,
+            };
+            put_line(&mut report, b"open", [p as i64, status]);
+        }
+        put_line(&mut report, b"end", [number as i64, line as i64]);
+        report
+    }
+}
+
+/// Adds a line: its kind, then its numbers in base ten, each after a tab.
+fn put_line(report: &mut Vec<u8>, kind: &[u8], numbers: impl IntoIterator<Item = i64>) {
+    report.extend_from_slice(kind);
+    for number in numbers {
+        report.extend_from_slice(if number < 0 { &b"\t-"[..] } else { &b"\t"[..] });
+        let first = report.len();
+        let mut rest = number.unsigned_abs();
+        loop {
+            report.push(b'0' + (rest % 10) as u8);
+            rest /= 10;
+            if rest == 0 { break; }
+        }
+        report[first..].reverse();
+    }
+    report.push(b'\n');
+}
