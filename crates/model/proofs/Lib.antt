@@ -43,10 +43,5 @@ pub mod Reached
 pub mod Answer
 pub mod StockRule
 pub mod Demand3
--- The ranges of the machine's numbers, and that what is committed is a call that the entries name.
-pub mod Every
-pub mod Bounded
-pub mod BoundedKept
-pub mod Ranges
 -- Plans that are accepted, and a state in which both cases of the memory clause are met.
 pub mod Examples

@@ -1,5 +1,5 @@
 -- The ranges of the machine's numbers: what it takes for them to fit the arrays and the small integers that a program
--- keeps them in, and for every place that an item reads to be there. proofs/Ranges.antt shows them of every run.
+-- keeps them in, and for every place that an item reads to be there. The crate ranges shows them of every run.
 -- Assumes nothing.
 use Prim.Native.Nat.{ℕ, _≤_, _<_}
 use mathlib.Core.Path.{_≡_}

@@ -215,6 +215,10 @@ module _ (form : Form) (text : List ℕ) (c : Cursor) (a a′ : Arrays) (end : �
               here .counted,
               ap (λ (ls : List Line). length ls) (lines-here form text c a a′ end inside place more),
             );
+        early =
+            by-test (eqb (q .entries) 0)
+            (λ t. omega (arith, chosen _ _ _ l line-is t))
+            (λ t. omega (arith, other _ _ _ l line-is t, here .early, lines-is));
         entries =
             λ s.
             by-test (eqb (q .entries) 0)
@@ -239,6 +243,7 @@ placed-start text =
     record {
       inside = omega arith;
       passed = omega arith;
+      early = omega arith;
       counted = omega arith;
       entries = λ s. refl;
       none-yet = λ e. (refl, refl);

@@ -18,12 +18,13 @@ use Rattle.reader.specs.declared.Lines.{Lines}
 abbrev pub linesFrom : List ℕ → ℕ → List Line
 linesFrom text at = lines (drop at text)
 
--- A cursor in a text: it is within the text, has passed as many bytes as lines at least, the lines before and behind it
--- are all lines, and the entries of the whole text are those from the cursor's first one on. Before
--- there is one, that is the cursor's own place.
+-- A cursor in a text: it is within the text, has passed as many bytes as lines at least, the entries stand from no
+-- later line on than its own, the lines before and behind it are all lines, and the entries of the whole text are
+-- those from the cursor's first one on. Before there is one, that is the cursor's own place.
 pub record Placed (text : List ℕ) (c : Cursor) : Type 0 where
   pub inside : c .at ≤ length text
   pub passed : c .progress .lines ≤ c .at
+  pub early : c .line ≤ c .progress .lines + 1
   pub counted : c .progress .lines + length (linesFrom text (c .at)) ≡ length (lines text)
   pub entries : (s : ℕ) → entriesOf s 1 (lines text) ≡ entriesOf s (c .line) (linesFrom text (c .first))
   pub none-yet : c .progress .entries ≡ 0 → (c .first ≡ c .at) × (c .line ≡ c .progress .lines + 1)

@@ -177,6 +177,7 @@ fn read_lines(
         (arrays (now (cards .exit)) (now (priorities .exit)) (now (words .exit)) (now (counts .exit))
         (now (kinds .exit)) (now (targets .exit)) (now (sources .exit)) (now (amounts .exit)))
         ≡ reading form (now (text .entry)) ⌝ }
+    ensures { λ r. ⌜ r .line ≤ 65537 ⌝ }
 {
     let mut c = start();
     if 65536 < text.len() {
@@ -213,6 +214,7 @@ fn read_lines(
 pub fn read(text: &[u8], form: Form) -> Parsed
     ensures { λ r. ⌜ readingOf (r .verdict) (r .plan) (r .first) (r .line) (now (text .entry))
         ≡ reading form (now (text .entry)) ⌝ }
+    ensures { λ r. ⌜ r .line ≤ 65537 ⌝ }
 {
     let mut cards = [0u8; 16];
     let mut priorities = [0u8; 16];

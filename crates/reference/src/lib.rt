@@ -1,9 +1,9 @@
 // The public functions of the point memory machine. None has a `requires`, and none is handed a state.
 ghost use mathlib.Core.Path.{_≡_};
 ghost use Rattle.format.specs.Reading.{reading, verdictOf};
-ghost use Rattle.format.specs.Faults.{numberOf};
-ghost use Rattle.reference.specs.Answers.{answerOf};
-use format::Fault;
+ghost use Rattle.runs.specs.Runs.{runText, handed, left};
+ghost use Rattle.reference.specs.Answers.{answerOf, endedOf};
+ghost use denote.Ref.{ptr};
 use format::Form;
 use format::Verdict;
 
@@ -21,24 +21,6 @@ pub fn check(text: &[u8], form: Form) -> Verdict
     parsed.verdict
 }
 
-// The number of a fault in the table.
-fn number_of(fault: Fault) -> usize
-    ensures { λ r. ⌜ r ≡ numberOf fault ⌝ }
-{
-    match fault {
-        Fault::TooLong => 1,
-        Fault::Unknown => 2,
-        Fault::Misplaced => 3,
-        Fault::Malformed => 4,
-        Fault::TooMany => 5,
-        Fault::BadSize => 6,
-        Fault::BadJob => 7,
-        Fault::SameJob => 8,
-        Fault::BadWord => 9,
-        Fault::TooManyBlocks => 10,
-    }
-}
-
 // A verdict by its number and line.
 pub fn answer_of(verdict: Verdict) -> Answer
     ensures { λ r. ⌜ r ≡ answerOf verdict ⌝ }
@@ -49,8 +31,41 @@ pub fn answer_of(verdict: Verdict) -> Answer
             line: lines,
         },
         Verdict::Refused(fault, line) => Answer {
-            number: number_of(fault),
+            number: text_run::fault_number(fault),
             line,
         },
     }
+}
+
+// How a run ended: its number in the table with its line, and the length of the report, 0 where none is written.
+#[repr(C)]
+pub struct Ended {
+    pub number: usize,
+    pub line: usize,
+    pub length: usize,
+}
+
+// Runs a text. The report stands in the first places of the lent buffer; what lies behind it stays as it was, and where
+// no report is written all of it does.
+pub fn run(text: &[u8], buffer: &mut [u8]) -> Ended
+    ensures { λ r. ⌜ r ≡ endedOf (runText (now (text .entry))) (now (buffer .entry)) ⌝ }
+    ensures { λ _. ⌜ now (buffer .exit) ≡ left (runText (now (text .entry))) (now (buffer .entry)) ⌝ }
+{
+    let finished = text_run::run_text(text, buffer);
+    let end = finished.end;
+    Ended {
+        number: text_run::end_number(end),
+        line: text_run::end_line(end),
+        length: finished.length,
+    }
+}
+
+// Runs a text, and hands back the written part of the buffer, empty where no report is written.
+pub fn run_part<'a>(text: &[u8], buffer: &'a mut [u8]) -> &'a mut [u8]
+    ensures { λ r. ⌜ (now r ≡ handed (runText (now (text .entry))) (now (buffer .entry))) × (ptr r ≡ ptr
+        (buffer .entry)) ⌝ }
+{
+    let ended = run(text, buffer);
+    let length = ended.length;
+    &mut buffer[..length]
 }

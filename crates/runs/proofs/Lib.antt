@@ -1,4 +1,7 @@
--- The definitions computed on the runs of document 01, and the laws of what is left in a lent buffer.
+-- The definitions computed on the runs of document 01, the laws of what is left in a lent buffer, and the nearest wrong
+-- machine held against the right one.
 mod Texts
 pub mod MarkedRuns
 pub mod Buffers
+pub mod WholeAtCommit
+pub mod Backed

@@ -1,19 +1,26 @@
-// The runner over the packs of cases in data/. It checks the text of each case of the kind `run` and writes where the
-// answer is not what the case's output says, and for each pack how many cases agree.
+// The runner over the packs of cases in data/. It checks and runs the text of each case of the kind `run`, and writes
+// where the check's answer or the run's output is not what the case says, and for each pack how many cases agree.
 //
 // A pack is case after case: the line `case NAME KIND ROOM INLEN RECLEN OUTLEN`, its words parted by one space, then
-// INLEN bytes of text, RECLEN bytes of records and OUTLEN bytes of what must come out. ROOM and the records are for
-// schedules, and play no part here.
-ghost use Prim.Native.Nat.{_≤_, _<_};
+// INLEN bytes of text, RECLEN bytes of records and OUTLEN bytes of what must come out. ROOM is the length of the buffer
+// that is lent for the report, or `-` for one that is large enough. The records are for schedules, which are not run.
+ghost use Prim.Native.Nat.{_+_, _≤_, _<_};
 ghost use lib.ListN.{length};
 ghost use Rattle.vectors.specs.Places.{Placed, Within};
 use format::Form;
 use libc::STDOUT_FILENO;
 use reference::Answer;
+use reference::Ended;
 use text::Number;
 
 // More bytes than the largest pack has.
 const ROOM: usize = 1400000;
+
+// Room for the longest report: up to 4,000 commit lines of 18 bytes, 16 block lines of 182, 16 open lines and the end.
+const REPORT: usize = 80000;
+
+// What every byte of the buffer is before a run.
+const MARKER: u8 = 170;
 
 // The lengths of a case's text, of its records and of its output.
 struct Lengths {
@@ -42,10 +49,27 @@ enum Next {
     Malformed,
 }
 
+// What the last line of a case's output says.
+enum Ending {
+    Read(Answer),
+    Malformed,
+}
+
+// How much room a case has for its report.
+enum Room {
+    Bytes(usize),
+    Malformed,
+}
+
+// Whether the check's answer and the run's output are what a case says.
+struct Agreed {
+    check: bool,
+    run: bool,
+}
+
 // What became of a case.
 enum Outcome {
-    Agrees,
-    Differs,
+    Ran(Agreed),
     NotRun,
     Malformed,
 }
@@ -145,39 +169,69 @@ fn next_case(pack: &[u8], at: usize) -> Next
     lay_out(end, pack.len(), lengths)
 }
 
-// What a case says of the check of its text: an output of one line `end n l`, with n from 1 to 10, says that it is
-// refused by n at line l, and every other output that it is accepted.
-fn wanted(text: &[u8], output: &[u8]) -> Answer {
+// The last line of bytes whose lines are each ended by a line feed.
+fn last_line(bytes: &[u8]) -> &[u8] {
+    let lines = count(bytes, b'\n');
+    if lines == 0 {
+        return &bytes[..0];
+    }
+    word(bytes, b'\n', lines - 1)
+}
+
+// The number and line that a line `end n l` gives.
+fn read_ending(line: &[u8]) -> Ending {
+    if count(line, b'\t') != 2 {
+        return Ending::Malformed;
+    }
+    if !check::same(word(line, b'\t', 0), b"end") {
+        return Ending::Malformed;
+    }
+    let Number::Value(number) = text::number_of(word(line, b'\t', 1)) else {
+        return Ending::Malformed;
+    };
+    let Number::Value(place) = text::number_of(word(line, b'\t', 2)) else {
+        return Ending::Malformed;
+    };
+    Ending::Read(Answer {
+        number: number as usize,
+        line: place as usize,
+    })
+}
+
+// What a case says of the check of its text: an output that ends in n from 1 to 10 says that it is refused by n, and
+// every other that it is accepted.
+fn wanted(text: &[u8], end: Answer) -> Answer {
     let accepted = Answer {
         number: 0,
         line: count(text, b'\n'),
     };
-    let line = word(output, b'\n', 0);
-    if line.len() + 1 != output.len() {
+    if end.number < 1 {
         return accepted;
     }
-    if count(line, b'\t') != 2 {
+    if end.number > 10 {
         return accepted;
     }
-    if !check::same(word(line, b'\t', 0), b"end") {
-        return accepted;
+    end
+}
+
+// The report that a case's output is. An output of one line is none: a report has a line for each block besides.
+fn wanted_report(output: &[u8]) -> &[u8] {
+    let line = last_line(output);
+    if line.len() + 1 == output.len() {
+        return &output[..0];
     }
-    let Number::Value(number) = text::number_of(word(line, b'\t', 1)) else {
-        return accepted;
+    output
+}
+
+// The room that a case's word says, where all that there is is large enough.
+fn room_of(bytes: &[u8], all: usize) -> Room {
+    if check::same(bytes, b"-") {
+        return Room::Bytes(all);
+    }
+    let Number::Value(number) = text::number_of(bytes) else {
+        return Room::Malformed;
     };
-    let Number::Value(place) = text::number_of(word(line, b'\t', 2)) else {
-        return accepted;
-    };
-    if number < 1 {
-        return accepted;
-    }
-    if number > 10 {
-        return accepted;
-    }
-    Answer {
-        number: number as usize,
-        line: place as usize,
-    }
+    Room::Bytes(number as usize)
 }
 
 // Writes bytes to standard output.
@@ -203,18 +257,154 @@ fn print_both(first: &[u8], second: &[u8]) {
     print(second);
 }
 
-// Writes the answer to a case, and the one that is wanted.
-fn print_difference(pack_name: &[u8], case_name: &[u8], got: Answer, want: Answer) {
+// Writes the names of a pack and of a case.
+fn print_names(pack_name: &[u8], case_name: &[u8]) {
     print_both(pack_name, b": ");
-    print_both(case_name, b": got ");
+    print_both(case_name, b": ");
+}
+
+// Writes the answer to a case, and the one that is wanted.
+fn print_difference(got: Answer, want: Answer) {
+    print(b"got ");
     print_answer(got);
     print(b", wanted ");
     print_answer(want);
     print(b"\n");
 }
 
-// Runs one case of a pack, and writes a line where the answer differs from what is wanted.
-fn run_case(pack_name: &[u8], header: &[u8], text: &[u8], output: &[u8]) -> Outcome {
+// How many lines of a report stand in the output as well, before the first that does not.
+fn same_lines(report: &[u8], output: &[u8]) -> usize {
+    let lines = count(report, b'\n');
+    let mut i = 0;
+    while i < lines {
+        if !check::same(word(report, b'\n', i), word(output, b'\n', i)) {
+            return i;
+        }
+        i += 1;
+    }
+    i
+}
+
+// Writes the first line of a report that is not the one that is wanted, and the one that is.
+fn print_lines(report: &[u8], output: &[u8]) {
+    let before = same_lines(report, output);
+    print_both(b"report: got ", word(report, b'\n', before));
+    print_both(b", wanted ", word(output, b'\n', before));
+    print(b"\n");
+}
+
+// Whether two answers are the same.
+fn same_answer(got: Answer, want: Answer) -> bool {
+    if got.number != want.number {
+        return false;
+    }
+    got.line == want.line
+}
+
+// Checks the text of a case, and writes a line where the answer is not what is wanted.
+fn check_case(pack_name: &[u8], case_name: &[u8], text: &[u8], end: Answer) -> bool {
+    let got = reference::answer_of(reference::check(text, Form::Schedule));
+    let want = wanted(text, end);
+    if same_answer(got, want) {
+        return true;
+    }
+    print_names(pack_name, case_name);
+    print(b"check: ");
+    print_difference(got, want);
+    false
+}
+
+// Writes x to every byte.
+fn fill(bytes: &mut [u8], x: u8) {
+    let mut i = 0;
+    while i < bytes.len() {
+        bytes[i] = x;
+        i += 1;
+    }
+}
+
+// Runs a text, with n bytes lent for the report.
+fn run_text(text: &[u8], room: &mut [u8], n: usize) -> Ended
+    requires { ⌜ n ≤ length (now room) ⌝ }
+    ensures { λ r. ⌜ r .length ≤ n ⌝ }
+{
+    reference::run(text, &mut room[..n])
+}
+
+// Whether the bytes from a place on are all as before the run.
+fn kept(bytes: &[u8], from: usize) -> bool
+    requires { ⌜ from ≤ length (now bytes) ⌝ }
+{
+    count(&bytes[from..], MARKER) == bytes.len() - from
+}
+
+// Whether a report is the one that is wanted. Writes a line where it is not.
+fn compare_report(pack_name: &[u8], case_name: &[u8], report: &[u8], output: &[u8]) -> bool {
+    if check::same(report, wanted_report(output)) {
+        return true;
+    }
+    print_names(pack_name, case_name);
+    print_lines(report, output);
+    false
+}
+
+// Whether a run ended as is wanted, and left the bytes past its report as they were. Writes a line where not.
+fn compare_end(
+    pack_name: &[u8],
+    case_name: &[u8],
+    got: Answer,
+    end: Answer,
+    is_kept: bool,
+) -> bool {
+    if !same_answer(got, end) {
+        print_names(pack_name, case_name);
+        print(b"run: ");
+        print_difference(got, end);
+        return false;
+    }
+    if !is_kept {
+        print_names(pack_name, case_name);
+        print(b"run: bytes past the report were written\n");
+        return false;
+    }
+    true
+}
+
+// Runs the text of a case with n bytes lent. Writes a line where its output is not what is wanted, or it wrote past its
+// report.
+fn try_case(
+    pack_name: &[u8],
+    case_name: &[u8],
+    text: &[u8],
+    output: &[u8],
+    end: Answer,
+    room: &mut [u8],
+    n: usize,
+) -> bool
+    requires { ⌜ n ≤ length (now room) ⌝ }
+{
+    fill(room, MARKER);
+    let ended = run_text(text, room, n);
+    let written = ended.length;
+    let got = Answer {
+        number: ended.number,
+        line: ended.line,
+    };
+    let is_kept = kept(room, written);
+    if !compare_end(pack_name, case_name, got, end, is_kept) {
+        return false;
+    }
+    compare_report(pack_name, case_name, &room[..written], output)
+}
+
+// Checks and runs one case of a pack.
+fn run_case(
+    pack_name: &[u8],
+    header: &[u8],
+    text: &[u8],
+    output: &[u8],
+    room: &mut [u8],
+) -> Outcome {
     let kind = word(header, b' ', 2);
     if check::same(kind, b"schedule") {
         return Outcome::NotRun;
@@ -222,19 +412,26 @@ fn run_case(pack_name: &[u8], header: &[u8], text: &[u8], output: &[u8]) -> Outc
     if !check::same(kind, b"run") {
         return Outcome::Malformed;
     }
-    let got = reference::answer_of(reference::check(text, Form::Schedule));
-    let want = wanted(text, output);
-    if got.number == want.number {
-        if got.line == want.line {
-            return Outcome::Agrees;
-        }
+    let Room::Bytes(n) = room_of(word(header, b' ', 3), room.len()) else {
+        return Outcome::Malformed;
+    };
+    if n > room.len() {
+        return Outcome::Malformed;
     }
-    print_difference(pack_name, word(header, b' ', 1), got, want);
-    Outcome::Differs
+    let Ending::Read(end) = read_ending(last_line(output)) else {
+        return Outcome::Malformed;
+    };
+    let case_name = word(header, b' ', 1);
+    let checked = check_case(pack_name, case_name, text, end);
+    let ran = try_case(pack_name, case_name, text, output, end, room, n);
+    Outcome::Ran(Agreed {
+        check: checked,
+        run: ran,
+    })
 }
 
 // Runs the case whose parts stand at a place of a pack.
-fn run_at(pack_name: &[u8], pack: &[u8], at: usize, parts: Parts) -> Outcome
+fn run_at(pack_name: &[u8], pack: &[u8], at: usize, parts: Parts, room: &mut [u8]) -> Outcome
     requires { ⌜ Placed at (length (now pack)) parts ⌝ }
 {
     let header = parts.header;
@@ -247,6 +444,7 @@ fn run_at(pack_name: &[u8], pack: &[u8], at: usize, parts: Parts) -> Outcome
         &pack[at..header],
         &pack[start..text],
         &pack[records..output],
+        room,
     )
 }
 
@@ -261,11 +459,14 @@ fn print_malformed(name: &[u8]) {
     print_both(name, b": malformed\n");
 }
 
-// Writes how many cases of a pack were run, how many of them agree, and how many were not run.
-fn print_total(name: &[u8], agree: usize, run: usize, not_run: usize) {
+// Writes how many cases of a pack were run, how many of them agree in their check and in their run, and how many were
+// not run.
+fn print_total(name: &[u8], checks: usize, runs: usize, run: usize, not_run: usize) {
     print_both(name, b": ");
-    print_counted(agree, b" of ");
-    print_counted(run, b" agree");
+    print_counted(checks, b" of ");
+    print_counted(run, b" checks agree, ");
+    print_counted(runs, b" of ");
+    print_counted(run, b" runs agree");
     if not_run > 0 {
         print(b", ");
         print_counted(not_run, b" schedule cases not run");
@@ -273,9 +474,21 @@ fn print_total(name: &[u8], agree: usize, run: usize, not_run: usize) {
     print(b"\n");
 }
 
+// A count with one more where a case agrees.
+fn counted(count: usize, agrees: bool) -> usize
+    requires { ⌜ count < 18446744073709551615 ⌝ }
+    ensures { λ r. ⌜ r ≤ count + 1 ⌝ }
+{
+    if agrees {
+        return count + 1;
+    }
+    count
+}
+
 // Runs the cases of a pack up to its end, or up to one that is malformed.
-fn run_pack(name: &[u8], pack: &[u8]) {
-    let mut agree = 0;
+fn run_pack(name: &[u8], pack: &[u8], room: &mut [u8]) {
+    let mut checks = 0;
+    let mut runs = 0;
     let mut run = 0;
     let mut not_run = 0;
     let mut at = 0;
@@ -284,12 +497,10 @@ fn run_pack(name: &[u8], pack: &[u8]) {
             print_malformed(name);
             return;
         };
-        match run_at(name, pack, at, parts) {
-            Outcome::Agrees => {
-                agree += 1;
-                run += 1;
-            }
-            Outcome::Differs => {
+        match run_at(name, pack, at, parts, room) {
+            Outcome::Ran(agreed) => {
+                checks = counted(checks, agreed.check);
+                runs = counted(runs, agreed.run);
                 run += 1;
             }
             Outcome::NotRun => {
@@ -302,11 +513,11 @@ fn run_pack(name: &[u8], pack: &[u8]) {
         }
         at = parts.output;
     }
-    print_total(name, agree, run, not_run);
+    print_total(name, checks, runs, run, not_run);
 }
 
 // Reads a pack into the bytes lent for it, and runs it. One that fills them all may go on past them: it is not run.
-fn run_file(name: &[u8], bytes: &mut [u8]) {
+fn run_file(name: &[u8], bytes: &mut [u8], room: &mut [u8]) {
     let descriptor = os::open_read(name);
     if descriptor < 0 {
         os::fail(name);
@@ -318,19 +529,20 @@ fn run_file(name: &[u8], bytes: &mut [u8]) {
         print_malformed(name);
         return;
     }
-    run_pack(name, &bytes[..length]);
+    run_pack(name, &bytes[..length], room);
 }
 
-// Runs each pack. It is lent the room as an array, whose length its type gives: to count the zeros of so many would
+// Runs each pack. It is lent the room as arrays, whose lengths their types give: to count the zeros of so many would
 // take the prover too much room.
-fn run_files(room: &mut [u8; ROOM]) {
-    run_file(b"base.pack", room);
-    run_file(b"runs.pack", room);
-    run_file(b"wrong.pack", room);
+fn run_files(bytes: &mut [u8; ROOM], room: &mut [u8; REPORT]) {
+    run_file(b"base.pack", bytes, room);
+    run_file(b"runs.pack", bytes, room);
+    run_file(b"wrong.pack", bytes, room);
 }
 
-// Runs the packs. The case of the last one has a wrong answer on purpose.
+// Runs the packs. The cases of the last one are wrong on purpose: one in its answer, one in a line of its report.
 fn main() {
-    let mut room = [0u8; ROOM];
-    run_files(&mut room);
+    let mut bytes = [0u8; ROOM];
+    let mut room = [0u8; REPORT];
+    run_files(&mut bytes, &mut room);
 }

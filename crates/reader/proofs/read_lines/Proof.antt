@@ -52,6 +52,10 @@ now-arrays c =
 measured : (c : tie.At-loop Inv-loop μ-loop) → length (now (begin c .args .text)) ≤ 65536
 measured c = c .before .if1 .left
 
+-- The entries stand from a line of the text on, or from the one behind it.
+low : (c : tie.At-loop Inv-loop μ-loop) → c .loop .c .line ≤ 65537
+low c = omega (arith, measured c, c .loop .inv .0 .inside, c .loop .inv .0 .passed, c .loop .inv .0 .early)
+
 -- The arrays that reading on leaves.
 abbrev left-arrays : tie.After-read-on Inv-loop μ-loop → Arrays
 left-arrays c =
@@ -84,10 +88,12 @@ ended-requires c κs = search needs
 
 returns : tie.Need-returns Inv-loop μ-loop
 returns c =
-    let s = c .before .before .before .before .before in
-    same-lines (s .args .form) _ _ _ _ (c .ended .ensures)
-    (too-long (s .args .form) (now (s .args .text)) (c .before .before .start .result) (whole s)
-    (c .before .if1 .taken))
+    let s = c .before .before .before .before .before in (
+      same-lines (s .args .form) _ _ _ _ (c .ended .ensures)
+          (too-long (s .args .form) (now (s .args .text)) (c .before .before .start .result) (whole s)
+          (c .before .if1 .taken)),
+      rw (c .ended .ensures, c .before .before .start .ensures) (omega arith),
+    )
 
 loop-holds : tie.Need-loop-holds Inv-loop μ-loop
 loop-holds c =
@@ -116,14 +122,16 @@ same-length c =
 returns-2 : tie.Need-returns-2 Inv-loop μ-loop
 returns-2 c =
     let r = c .before .before .before .before .before .before in
-    let l = turn r in
-    same-lines (begin l .args .form) _ _ _ _ (c .ended2 .ensures)
-    (gives-refusal (begin l .args .form) (now (begin l .args .text)) (l .loop .c) (now-arrays l) (measured l)
-    (l .loop .inv .1 .1)
-    (now-arrays l)
-    _
-    _
-    (promised r _ (c .before .before .step .given .1)))
+    let l = turn r in (
+      same-lines (begin l .args .form) _ _ _ _ (c .ended2 .ensures)
+          (gives-refusal (begin l .args .form) (now (begin l .args .text)) (l .loop .c) (now-arrays l) (measured l)
+          (l .loop .inv .1 .1)
+          (now-arrays l)
+          _
+          _
+          (promised r _ (c .before .before .step .given .1))),
+      rw (c .ended2 .ensures) (low l),
+    )
 
 enum-known-step-2 : tie.Need-enum-known-step-2 Inv-loop μ-loop
 enum-known-step-2 c = search needs
@@ -150,14 +158,16 @@ same-length-2 c = search needs
 
 returns-3 : tie.Need-returns-3 Inv-loop μ-loop
 returns-3 c =
-    let l = c .before .before .before .before .before .before in
-    same-lines (begin l .args .form) _ _ _ _ (c .ended3 .ensures)
-    (gives-plan (begin l .args .form) (now (begin l .args .text)) (l .loop .c) (now-arrays l) (measured l)
-    (l .loop .inv .1 .1)
-    (c .before .before .before .before .if2 .left)
-    (sym (c .before .before .laid-out .ensures (now-arrays l)) ∙ c .before .if3 .taken)
-    (l .loop .inv .0)
-    (l .loop .inv .1 .0 .ranged))
+    let l = c .before .before .before .before .before .before in (
+      same-lines (begin l .args .form) _ _ _ _ (c .ended3 .ensures)
+          (gives-plan (begin l .args .form) (now (begin l .args .text)) (l .loop .c) (now-arrays l) (measured l)
+          (l .loop .inv .1 .1)
+          (c .before .before .before .before .if2 .left)
+          (sym (c .before .before .laid-out .ensures (now-arrays l)) ∙ c .before .if3 .taken)
+          (l .loop .inv .0)
+          (l .loop .inv .1 .0 .ranged)),
+      rw (c .ended3 .ensures) (low l),
+    )
 
 add-t17 : tie.Need-add-t17 Inv-loop μ-loop
 add-t17 c =
@@ -172,12 +182,14 @@ same-length-3 c = search needs
 
 returns-4 : tie.Need-returns-4 Inv-loop μ-loop
 returns-4 c =
-    let l = c .before .before .before .before .before .before .before in
-    same-lines (begin l .args .form) _ _ _ _ (c .ended4 .ensures)
-    (gives-early (begin l .args .form) (now (begin l .args .text)) (l .loop .c) (now-arrays l) (measured l)
-    (l .loop .inv .1 .1)
-    (c .before .before .before .before .before .if2 .left)
-    (sym (c .before .before .before .laid-out .ensures (now-arrays l)) ∙ c .before .before .if3 .left))
+    let l = c .before .before .before .before .before .before .before in (
+      same-lines (begin l .args .form) _ _ _ _ (c .ended4 .ensures)
+          (gives-early (begin l .args .form) (now (begin l .args .text)) (l .loop .c) (now-arrays l) (measured l)
+          (l .loop .inv .1 .1)
+          (c .before .before .before .before .before .if2 .left)
+          (sym (c .before .before .before .laid-out .ensures (now-arrays l)) ∙ c .before .before .if3 .left)),
+      rw (c .ended4 .ensures) (low l),
+    )
 
 pub read-lines-spec : {M : Type 1} → statement M
 read-lines-spec =

@@ -10,7 +10,7 @@ read-requires : tie.Need-read-requires
 read-requires c κs = search needs
 
 returns : tie.Need-returns
-returns c = verdict-kept _ _ _ _ _ ∙ ap verdictOf (c .read .ensures)
+returns c = verdict-kept _ _ _ _ _ ∙ ap verdictOf (c .read .ensures .0)
 
 pub check-spec : {M : Type 1} → statement M
 check-spec = tie.close (tie.spec read-requires returns)

@@ -1,5 +1,5 @@
--- `run_pack` is safe and ends. The loop's invariant: no more cases are counted than bytes were passed. Assumes
--- nothing.
+-- `run_pack` is safe and ends. The loop's invariant: no more cases are counted than bytes were passed, and the room
+-- keeps its length. Assumes nothing.
 use Prim.Native.Nat.{ℕ, _≤_, _-_, _+_}
 use native.Mathlib.Omega.{arith}
 use mathlib.Core.Path.{_≡_, subst}
@@ -14,11 +14,12 @@ use Rattle.vectors.proofs.run_pack.Statement.{statement}
 use Rattle.vectors.proofs.run_pack.Tie as tie
 
 abbrev Inv-loop : tie.InvT-loop
-Inv-loop name pack agree₀ run₀ not-run₀ at₀ agree run not-run at =
-    (at ≤ length pack) × ((agree ≤ run) × (run + not-run ≤ at))
+Inv-loop name pack room₀ checks₀ runs₀ run₀ not-run₀ at₀ room checks runs run not-run at =
+    (at ≤ length pack)
+    × ((checks ≤ run) × ((runs ≤ run) × ((run + not-run ≤ at) × (length room ≡ length room₀))))
 
 abbrev μ-loop : tie.MeasureT-loop
-μ-loop name pack agree₀ run₀ not-run₀ at₀ agree run not-run at = length pack - at
+μ-loop name pack room₀ checks₀ runs₀ run₀ not-run₀ at₀ room checks runs run not-run at = length pack - at
 
 -- Of a case that was found, what is known of what was found.
 case-placed : (at size : ℕ) (r : Next) (p : Parts) → r ≡ Case p → Within at size r → Placed at size p
@@ -28,7 +29,7 @@ case-placed at size r p e = subst (Within at size) e
 placed : (c : tie.After-parts Inv-loop μ-loop)
     → Placed
     (c .before .before .before .before .loop .at)
-    (length (now (c .before .before .before .before .before .before .before .args .pack)))
+    (length (now (c .before .before .before .before .before .before .before .before .args .pack)))
     (c .parts .given .0 .0)
 placed c =
     let found = c .before .before .next-case in
@@ -49,62 +50,68 @@ enum-told c = search needs
 print-malformed-requires : tie.Need-print-malformed-requires Inv-loop μ-loop
 print-malformed-requires c κs = search needs
 
+same-length : tie.Need-same-length Inv-loop μ-loop
+same-length c = search needs
+
 returns : tie.Need-returns Inv-loop μ-loop
 returns c = search needs
 
 run-at-requires : tie.Need-run-at-requires Inv-loop μ-loop
-run-at-requires c κs = placed (c .before)
+run-at-requires c κs = placed (c .before .before)
 
-enum-told-2 : tie.Need-enum-told-2 Inv-loop μ-loop
-enum-told-2 c = search needs
+enum-known-agreed : tie.Need-enum-known-agreed Inv-loop μ-loop
+enum-known-agreed c = search needs
 
-add-agree : tie.Need-add-agree Inv-loop μ-loop
-add-agree c = search needs
+counted-requires : tie.Need-counted-requires Inv-loop μ-loop
+counted-requires c κs = search needs
+
+counted-requires-2 : tie.Need-counted-requires-2 Inv-loop μ-loop
+counted-requires-2 c κs = search needs
 
 add-run : tie.Need-add-run Inv-loop μ-loop
 add-run c = search needs
 
-enum-told-3 : tie.Need-enum-told-3 Inv-loop μ-loop
-enum-told-3 c = search needs
-
-add-run-2 : tie.Need-add-run-2 Inv-loop μ-loop
-add-run-2 c = search needs
-
-enum-told-4 : tie.Need-enum-told-4 Inv-loop μ-loop
-enum-told-4 c = search needs
+enum-told-2 : tie.Need-enum-told-2 Inv-loop μ-loop
+enum-told-2 c = search needs
 
 add-not-run : tie.Need-add-not-run Inv-loop μ-loop
 add-not-run c = search needs
 
-enum-told-5 : tie.Need-enum-told-5 Inv-loop μ-loop
-enum-told-5 c = search needs
+enum-told-3 : tie.Need-enum-told-3 Inv-loop μ-loop
+enum-told-3 c = search needs
 
 print-malformed-requires-2 : tie.Need-print-malformed-requires-2 Inv-loop μ-loop
 print-malformed-requires-2 c κs = search needs
+
+same-length-2 : tie.Need-same-length-2 Inv-loop μ-loop
+same-length-2 c = search needs
 
 returns-2 : tie.Need-returns-2 Inv-loop μ-loop
 returns-2 c = search needs
 
 loop-less : tie.Need-loop-less Inv-loop μ-loop
-loop-less c = let p = placed (c .before .before .before .before) in omega arith
+loop-less c =
+    let p = placed (c .before .before .before .before .before .before .before .before .before .before) in
+    omega arith
 
 loop-again : tie.Need-loop-again Inv-loop μ-loop
-loop-again c = let p = placed (c .before .before .before .before) in omega arith
+loop-again c =
+    let p = placed (c .before .before .before .before .before .before .before .before .before .before) in
+    (omega arith, (omega arith, (omega arith, (omega arith, search needs))))
 
 loop-less-2 : tie.Need-loop-less-2 Inv-loop μ-loop
-loop-less-2 c = let p = placed (c .before .before .before .before) in omega arith
+loop-less-2 c = let p = placed (c .before .before .before .before .before .before .before) in omega arith
 
 loop-again-2 : tie.Need-loop-again-2 Inv-loop μ-loop
-loop-again-2 c = let p = placed (c .before .before .before .before) in omega arith
-
-loop-less-3 : tie.Need-loop-less-3 Inv-loop μ-loop
-loop-less-3 c = let p = placed (c .before .before .before .before) in omega arith
-
-loop-again-3 : tie.Need-loop-again-3 Inv-loop μ-loop
-loop-again-3 c = let p = placed (c .before .before .before .before) in omega arith
+loop-again-2 c =
+    let p = placed (c .before .before .before .before .before .before .before) in
+    (omega arith, (omega arith, (omega arith, (omega arith, search needs))))
 
 print-total-requires : tie.Need-print-total-requires Inv-loop μ-loop
 print-total-requires c κs = search needs
+
+same-length-3 : tie.Need-same-length-3 Inv-loop μ-loop
+same-length-3 c = search needs
 
 returns-3 : tie.Need-returns-3 Inv-loop μ-loop
 returns-3 c = search needs
@@ -120,23 +127,23 @@ run-pack-spec =
     enum-known-parts
     enum-told
     print-malformed-requires
+    same-length
     returns
     run-at-requires
-    enum-told-2
-    add-agree
+    enum-known-agreed
+    counted-requires
+    counted-requires-2
     add-run
-    enum-told-3
-    add-run-2
-    enum-told-4
+    enum-told-2
     add-not-run
-    enum-told-5
+    enum-told-3
     print-malformed-requires-2
+    same-length-2
     returns-2
     loop-less
     loop-again
     loop-less-2
     loop-again-2
-    loop-less-3
-    loop-again-3
     print-total-requires
+    same-length-3
     returns-3)

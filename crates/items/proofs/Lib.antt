@@ -1,0 +1,2 @@
+-- Laws that the dispatch of the step list uses: the ranges of a state, as the items ask for them.
+pub mod Laws

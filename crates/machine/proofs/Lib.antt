@@ -1,0 +1,2 @@
+-- Why the code of an entry does what the definitions say.
+pub mod Laws

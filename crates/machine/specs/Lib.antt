@@ -1,0 +1,2 @@
+-- What acting on a judged entry promises and asks.
+pub mod Acting

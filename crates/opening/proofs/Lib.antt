@@ -1,0 +1,2 @@
+-- The law that the loops of this crate share.
+pub mod Filling

@@ -1,0 +1,2 @@
+-- What the functions of the step list promise.
+pub mod Given

@@ -1,0 +1,74 @@
+-- Bytes written into a lent buffer, as far as it has room, and the report's lines from the parts that the code is
+-- given. Assumes nothing.
+use Prim.Native.Nat.{ℕ, _+_, _≤_}
+use mathlib.Core.Path.{_≡_}
+use mathlib.Core.Bool.{cond}
+use mathlib.Core.List.{List, [], _∷_, _++_}
+use lib.IntN.{ℤ, pos}
+use lib.Dec.{leb}
+use lib.ListN.{length, getD, set, take, drop}
+use Rattle.text.specs.Bytes.{bytes}
+use Rattle.text.specs.Decimal.{decimal}
+use Rattle.format.specs.declared.Sizes.{Sizes}
+use Rattle.model.specs.declared.Working.{Working}
+use Rattle.model.specs.declared.Cells.{Cells}
+use Rattle.model.specs.Places.{isActive}
+use Rattle.model.specs.Working.{noWork}
+use Rattle.model.specs.Machine.{blockIn}
+use Rattle.report.specs.declared.Written.{Written}
+use Rattle.runs.specs.Report.{fieldsBehind, lineOf, statusBytes, joined}
+
+-- A buffer with bytes written from a place on. What lies past its end is not written.
+unfoldable pub put : List ℕ → ℕ → List ℕ → List ℕ
+put buffer at [] = buffer
+put buffer at (b ∷ bs) = put (set buffer at b) (at + 1) bs
+
+-- Some bytes were written from a place on, at most so many, and the place behind them is known.
+pub record Writes (written : List ℕ) (most at : ℕ) (before : List ℕ) (next : ℕ) (after : List ℕ) : Type 0 where
+  pub next-is : next ≡ at + length written
+  pub at-most : next ≤ at + most
+  pub after-is : after ≡ put before at written
+
+-- The commit lines of rows of an entry, a job and an update.
+abbrev pub rowLines : List (List ℕ) → List ℕ
+rowLines [] = []
+rowLines (row ∷ rows) = lineOf (bytes "commit") row ++ rowLines rows
+
+-- The block lines, by the bank and the store.
+abbrev pub blocksBytes : Sizes → List ℕ → List ℕ → List ℕ
+blocksBytes sizes bank store =
+    joined (sizes .blocks) (λ b. lineOf (bytes "block") (blockIn (sizes .words) store (getD bank b 0)))
+
+-- The line of job k with this status.
+abbrev pub openBytes : ℕ → ℤ → List ℕ
+openBytes k status = bytes "open" ++ fieldsBehind (decimal k ∷ statusBytes status ∷ [])
+
+-- The lines of the active jobs, by the statuses and the working records.
+abbrev pub opensBytes : ℕ → List ℤ → List Working → List ℕ
+opensBytes jobs stat works =
+    joined jobs (λ k. cond (isActive (getD works k noWork .place)) (openBytes k (getD stat k (pos 0))) [])
+
+-- The last line.
+abbrev pub endBytes : ℕ → ℕ → List ℕ
+endBytes number line = lineOf (bytes "end") (number ∷ line ∷ [])
+
+-- A whole report, with the first n rows of commits.
+abbrev pub reportBytes : Sizes → Cells → List Working → List ℕ → List (List ℕ) → ℕ → ℕ → ℕ → List ℕ
+reportBytes sizes cells works store commits n number line =
+    rowLines (take n commits)
+    ++ (blocksBytes sizes (cells .bank) store
+    ++ (opensBytes (sizes .jobs) (cells .stat) works
+    ++ endBytes number line))
+
+-- Whether bytes fit a buffer.
+abbrev pub fitting : List ℕ → List ℕ → Written
+fitting whole buffer = cond (leb (length whole) (length buffer)) (Written.Whole (length whole)) Written.NoRoom
+
+-- A buffer with bytes in its first places where they fit, as it was where they do not.
+abbrev pub filled : List ℕ → List ℕ → List ℕ
+filled whole buffer = cond (leb (length whole) (length buffer)) (whole ++ drop (length whole) buffer) buffer
+
+-- Bytes were written whole where they fit, and else not at all.
+pub record IsWritten (whole : List ℕ) (before : List ℕ) (answer : Written) (after : List ℕ) : Type 0 where
+  pub answer-is : answer ≡ fitting whole before
+  pub after-is : after ≡ filled whole before

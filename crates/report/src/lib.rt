@@ -1,0 +1,266 @@
+// The report, written into a lent buffer. Each function writes its bytes from a place on, as far as the buffer has
+// room, and answers the place behind them: so a report is measured by writing it where there is next to no room.
+ghost use mathlib.Core.Path.{_≡_};
+ghost use mathlib.Core.Bool.{cond};
+ghost use mathlib.Core.List.{[], _∷_, map};
+ghost use Prim.Native.Nat.{ℕ, _≤_, _<_, _+_, _*_};
+ghost use lib.IntN.{pos};
+ghost use lib.ListN.{length, getD, take};
+ghost use Rattle.text.specs.Bytes.{bytes};
+ghost use Rattle.text.specs.Decimal.{decimal};
+ghost use Rattle.model.specs.Machine.{blockIn};
+ghost use Rattle.model.specs.Places.{isActive};
+ghost use Rattle.model.specs.Ranges.{StatusIn};
+ghost use Rattle.runs.specs.Report.{fieldsBehind, lineOf, statusBytes};
+ghost use Rattle.report.specs.Writing.{Writes, rowLines, blocksBytes, openBytes, opensBytes, endBytes};
+ghost use Rattle.report.specs.Writing.{reportBytes, IsWritten};
+use format::Sizes;
+use model::Cells;
+use model::Place;
+use model::Working;
+
+// What was written: the length of the whole, or that there is no room for it.
+pub enum Written {
+    Whole(usize),
+    NoRoom,
+}
+
+// A byte.
+fn put_byte(buffer: &mut [u8], at: usize, byte: u8) -> usize
+    requires { ⌜ at < 4294967296 ⌝ }
+    ensures { λ r. ⌜ Writes (byte ∷ []) 1 at (now (buffer .entry)) r (now (buffer .exit)) ⌝ }
+{
+    if at < buffer.len() {
+        buffer[at] = byte;
+    }
+    at + 1
+}
+
+// Bytes.
+fn put_bytes(buffer: &mut [u8], at: usize, bytes: &[u8]) -> usize
+    requires { ⌜ at + length (now bytes) ≤ 4294967296 ⌝ }
+    ensures { λ r. ⌜ Writes (now (bytes .entry)) (length (now (bytes .entry))) at (now (buffer .entry)) r
+        (now (buffer .exit)) ⌝ }
+{
+    let mut next = at;
+    let mut i = 0;
+    while i < bytes.len() {
+        next = put_byte(buffer, next, bytes[i]);
+        i += 1;
+    }
+    next
+}
+
+// A number in base ten.
+fn put_decimal(buffer: &mut [u8], at: usize, n: u32) -> usize
+    requires { ⌜ at + 10 ≤ 4294967296 ⌝ }
+    ensures { λ r. ⌜ Writes (decimal n) 10 at (now (buffer .entry)) r (now (buffer .exit)) ⌝ }
+{
+    if n < 10 {
+        return put_byte(buffer, at, (48 + n) as u8);
+    }
+    let next = put_decimal(buffer, at, n / 10);
+    put_byte(buffer, next, (48 + n % 10) as u8)
+}
+
+// Numbers, each behind a tab, and the line feed.
+fn put_fields(buffer: &mut [u8], at: usize, numbers: &[u32]) -> usize
+    requires { ⌜ at + (11 * length (now numbers) + 1) ≤ 4294967296 ⌝ }
+    ensures { λ r. ⌜ Writes (fieldsBehind (map decimal (now (numbers .entry))))
+        (11 * length (now (numbers .entry)) + 1) at (now (buffer .entry)) r (now (buffer .exit)) ⌝ }
+{
+    let mut next = at;
+    let mut i = 0;
+    while i < numbers.len() {
+        next = put_byte(buffer, next, 9);
+        next = put_decimal(buffer, next, numbers[i]);
+        i += 1;
+    }
+    put_byte(buffer, next, 10)
+}
+
+// A line: its first field, and numbers.
+fn put_line(buffer: &mut [u8], at: usize, first: &[u8], numbers: &[u32]) -> usize
+    requires { ⌜ at + (length (now first) + (11 * length (now numbers) + 1)) ≤ 4294967296 ⌝ }
+    ensures { λ r. ⌜ Writes (lineOf (now (first .entry)) (now (numbers .entry)))
+        (length (now (first .entry)) + (11 * length (now (numbers .entry)) + 1)) at (now (buffer .entry)) r
+        (now (buffer .exit)) ⌝ }
+{
+    let next = put_bytes(buffer, at, first);
+    put_fields(buffer, next, numbers)
+}
+
+// "`commit entry job update`": the line of a row.
+fn put_commit(buffer: &mut [u8], at: usize, row: [u32; 3]) -> usize
+    requires { ⌜ at + 40 ≤ 4294967296 ⌝ }
+    ensures { λ r. ⌜ Writes (lineOf (bytes "commit") row) 40 at (now (buffer .entry)) r (now (buffer .exit)) ⌝ }
+{
+    put_line(buffer, at, b"commit", &row)
+}
+
+// "entries counted from 1, in commit order": the lines of the first n rows.
+fn put_commits(buffer: &mut [u8], at: usize, commits: &[[u32; 3]], n: usize) -> usize
+    requires { ⌜ (n ≤ length (now commits)) × (at + 40 * n ≤ 4294967296) ⌝ }
+    ensures { λ r. ⌜ Writes (rowLines (take n (now (commits .entry)))) (40 * n) at (now (buffer .entry)) r
+        (now (buffer .exit)) ⌝ }
+{
+    let mut next = at;
+    let mut i = 0;
+    while i < n {
+        next = put_commit(buffer, next, commits[i]);
+        i += 1;
+    }
+    next
+}
+
+// The line of a block of the store, of so many words.
+fn put_block(buffer: &mut [u8], at: usize, words: usize, number: usize, store: &[u32]) -> usize
+    requires { ⌜ (words ≤ 16) × (at + 200 ≤ 4294967296) ⌝ }
+    requires { ⌜ (length (now store) ≡ 2304) × (number < 144) ⌝ }
+    ensures { λ r. ⌜ Writes (lineOf (bytes "block") (blockIn words (now (store .entry)) number)) 200 at
+        (now (buffer .entry)) r (now (buffer .exit)) ⌝ }
+{
+    let start = number * words;
+    let end = start + words;
+    put_line(buffer, at, b"block", &store[start..end])
+}
+
+// "B lines `block` with the words seen through the bank".
+fn put_blocks(buffer: &mut [u8], at: usize, sizes: Sizes, bank: [u8; 16], store: &[u32]) -> usize
+    requires { ⌜ (sizes .blocks ≤ 16) × ((sizes .words ≤ 16) × (at + 3200 ≤ 4294967296)) ⌝ }
+    requires { ⌜ (length (now store) ≡ 2304) × ((b : ℕ) → getD bank b 0 < 144) ⌝ }
+    ensures { λ r. ⌜ Writes (blocksBytes sizes bank (now (store .entry))) 3200 at (now (buffer .entry)) r
+        (now (buffer .exit)) ⌝ }
+{
+    let mut next = at;
+    let mut b = 0;
+    while b < sizes.blocks {
+        let number = bank[b] as usize;
+        next = put_block(buffer, next, sizes.words, number, store);
+        b += 1;
+    }
+    next
+}
+
+// A status, "−1 printed as `-1`".
+fn put_status(buffer: &mut [u8], at: usize, status: i32) -> usize
+    requires { ⌜ (at + 11 ≤ 4294967296) × StatusIn 16 status ⌝ }
+    ensures { λ r. ⌜ Writes (statusBytes status) 11 at (now (buffer .entry)) r (now (buffer .exit)) ⌝ }
+{
+    if status == -1 {
+        let next = put_byte(buffer, at, 45);
+        return put_decimal(buffer, next, 1);
+    }
+    put_decimal(buffer, at, status as u32)
+}
+
+// "`open job status`" of a job, where it is active.
+fn put_open(buffer: &mut [u8], at: usize, place: Place, k: usize, status: i32) -> usize
+    requires { ⌜ (at + 40 ≤ 4294967296) × ((k < 16) × StatusIn 16 status) ⌝ }
+    ensures { λ r. ⌜ Writes (cond (isActive place) (openBytes k status) []) 40 at (now (buffer .entry)) r
+        (now (buffer .exit)) ⌝ }
+{
+    if !judging::is_active(place) {
+        return at;
+    }
+    let tab = put_bytes(buffer, at, b"open");
+    let job = put_byte(buffer, tab, 9);
+    let second = put_decimal(buffer, job, k as u32);
+    let value = put_byte(buffer, second, 9);
+    let end = put_status(buffer, value, status);
+    put_byte(buffer, end, 10)
+}
+
+// "`open job status` for each active job, by job number".
+fn put_opens(
+    buffer: &mut [u8],
+    at: usize,
+    jobs: usize,
+    stat: [i32; 17],
+    works: [Working; 16],
+) -> usize
+    requires { ⌜ (jobs ≤ 16) × ((at + 640 ≤ 4294967296) × ((k : ℕ) → StatusIn 16 (getD stat k (pos 0)))) ⌝ }
+    ensures { λ r. ⌜ Writes (opensBytes jobs stat works) 640 at (now (buffer .entry)) r (now (buffer .exit)) ⌝ }
+{
+    let mut next = at;
+    let mut k = 0;
+    while k < jobs {
+        let w = works[k];
+        let place = w.place;
+        next = put_open(buffer, next, place, k, stat[k]);
+        k += 1;
+    }
+    next
+}
+
+// "`end number line`".
+fn put_end(buffer: &mut [u8], at: usize, number: u32, line: u32) -> usize
+    requires { ⌜ at + 40 ≤ 4294967296 ⌝ }
+    ensures { λ r. ⌜ Writes (endBytes number line) 40 at (now (buffer .entry)) r (now (buffer .exit)) ⌝ }
+{
+    let numbers = [number, line];
+    put_line(buffer, at, b"end", &numbers)
+}
+
+// A report from the buffer's start on, as far as there is room. Answers its whole length.
+fn put_report(
+    buffer: &mut [u8],
+    sizes: Sizes,
+    cells: Cells,
+    works: [Working; 16],
+    store: &[u32],
+    commits: &[[u32; 3]; 4000],
+    n: usize,
+    number: u32,
+    line: u32,
+) -> usize
+    requires { ⌜ (sizes .blocks ≤ 16) × ((sizes .words ≤ 16) × ((sizes .jobs ≤ 16) × (n ≤ 4000))) ⌝ }
+    requires { ⌜ (length (now store) ≡ 2304) × (((b : ℕ) → getD (cells .bank) b 0 < 144)
+        × ((k : ℕ) → StatusIn 16 (getD (cells .stat) k (pos 0)))) ⌝ }
+    ensures { λ r. ⌜ Writes (reportBytes sizes cells works (now (store .entry)) (now (commits .entry)) n number line)
+        200000 0 (now (buffer .entry)) r (now (buffer .exit)) ⌝ }
+{
+    let bank = cells.bank;
+    let stat = cells.stat;
+    let blocks = put_commits(buffer, 0, commits, n);
+    let opens = put_blocks(buffer, blocks, sizes, bank, store);
+    let end = put_opens(buffer, opens, sizes.jobs, stat, works);
+    put_end(buffer, end, number, line)
+}
+
+// Writes a report into the buffer's first places, where there is room for all of it; else the buffer stays as it is.
+pub fn write(
+    buffer: &mut [u8],
+    sizes: Sizes,
+    cells: Cells,
+    works: [Working; 16],
+    store: &[u32],
+    commits: &[[u32; 3]; 4000],
+    n: usize,
+    number: u32,
+    line: u32,
+) -> Written
+    requires { ⌜ (sizes .blocks ≤ 16) × ((sizes .words ≤ 16) × ((sizes .jobs ≤ 16) × (n ≤ 4000))) ⌝ }
+    requires { ⌜ (length (now store) ≡ 2304) × (((b : ℕ) → getD (cells .bank) b 0 < 144)
+        × ((k : ℕ) → StatusIn 16 (getD (cells .stat) k (pos 0)))) ⌝ }
+    ensures { λ r. ⌜ IsWritten (reportBytes sizes cells works (now (store .entry)) (now (commits .entry)) n number line)
+        (now (buffer .entry)) r (now (buffer .exit)) ⌝ }
+{
+    let mut scratch = [0u8; 1];
+    let length = put_report(
+        &mut scratch,
+        sizes,
+        cells,
+        works,
+        store,
+        commits,
+        n,
+        number,
+        line,
+    );
+    if buffer.len() < length {
+        return Written::NoRoom;
+    }
+    put_report(buffer, sizes, cells, works, store, commits, n, number, line);
+    Written::Whole(length)
+}

@@ -1,0 +1,82 @@
+-- `stage` does the stage that it is given. Assumes nothing.
+use mathlib.Core.Path.{subst}
+use Rattle.stages.specs.AtMove.{RoomAt}
+use borrow.Author.Needs.{needs}
+use Rattle.stages.proofs.stage.Statement.{statement}
+use Rattle.stages.proofs.stage.Tie as tie
+
+enum-told : tie.Need-enum-told
+enum-told c = search needs
+
+check-requires : tie.Need-check-requires
+check-requires c κs = search needs
+
+enum-told-2 : tie.Need-enum-told-2
+enum-told-2 c = search needs
+
+list-requires : tie.Need-list-requires
+list-requires c κs =
+    let s = c .before .before .before in
+    let a = s .args in
+    (s .pre .0 .0, subst (λ st. RoomAt st (a .sizes) (a .m) (a .w)) (c .enum-told2 .given .1) (s .pre .1 .0))
+
+enum-told-3 : tie.Need-enum-told-3
+enum-told-3 c = search needs
+
+copy-requires : tie.Need-copy-requires
+copy-requires c κs =
+    let s = c .before .before .before in
+    let a = s .args in
+    (s .pre .0 .0, subst (λ st. RoomAt st (a .sizes) (a .m) (a .w)) (c .enum-told3 .given .1) (s .pre .1 .0))
+
+enum-told-4 : tie.Need-enum-told-4
+enum-told-4 c = search needs
+
+take-requires : tie.Need-take-requires
+take-requires c κs = search needs
+
+enum-told-5 : tie.Need-enum-told-5
+enum-told-5 c = search needs
+
+write-requires : tie.Need-write-requires
+write-requires c κs = search needs
+
+returns : tie.Need-returns
+returns c p card plan m g a e =
+    rw (c .before .enum-told .given .1) (c .check .ensures _ _ _ _ p card plan m g a e)
+
+returns-2 : tie.Need-returns-2
+returns-2 c p card plan m g a e =
+    rw (c .before .enum-told2 .given .1) (c .list .ensures _ _ p card plan m g a e)
+
+returns-3 : tie.Need-returns-3
+returns-3 c p card plan m g a e =
+    rw (c .before .enum-told3 .given .1) (c .copy .ensures _ _ _ p card plan m g a e)
+
+returns-4 : tie.Need-returns-4
+returns-4 c p card plan m g a e =
+    rw (c .before .enum-told4 .given .1) (c .take .ensures _ p card plan m g a e)
+
+returns-5 : tie.Need-returns-5
+returns-5 c p card plan m g a e =
+    rw (c .before .enum-told5 .given .1) (c .write .ensures _ _ p card plan m g a e)
+
+pub stage-spec : {M : Type 1} → statement M
+stage-spec =
+    tie.close
+    (tie.spec
+    enum-told
+    check-requires
+    enum-told-2
+    list-requires
+    enum-told-3
+    copy-requires
+    enum-told-4
+    take-requires
+    enum-told-5
+    write-requires
+    returns
+    returns-2
+    returns-3
+    returns-4
+    returns-5)

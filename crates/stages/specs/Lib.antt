@@ -1,0 +1,2 @@
+-- What the stages of a move promise, and what they ask.
+pub mod AtMove

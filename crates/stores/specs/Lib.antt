@@ -1,0 +1,2 @@
+-- What carrying out a store promises and asks.
+pub mod Carried

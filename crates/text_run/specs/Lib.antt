@@ -1,0 +1,2 @@
+-- What a run of a text came to.
+pub mod Finishing

@@ -1,0 +1,2 @@
+-- Why who runs on a card changes only with a call and a return.
+pub mod Laws

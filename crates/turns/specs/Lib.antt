@@ -1,0 +1,2 @@
+-- Two states that differ in one job's record.
+pub mod Differs
