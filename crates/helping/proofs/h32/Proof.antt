@@ -43,7 +43,9 @@ returns c p card plan m g =
     -- the status goes to wid as bits
     let bits = toZ-ofZ {w = w32} {z = z} (record { sfits = fits }) in
     let read = there (a .t2 .stat) (a .w .hid) (pos 0) d (omega (arith, g .all-stat)) in
-    let moved : c .before .go-to .result ≡ goto Place.A10 (withWid (toZ w32 (ofZ w32 z)) (a .w)) = c .before .go-to .ensures in
+    let moved : c .before .go-to .result ≡ goto Place.A10 (withWid (toZ w32 (ofZ w32 z)) (a .w)) =
+    c .before .go-to .ensures
+    in
     c .quiet .ensures
     ∙ rw (g .sizes-are, g .cells-are, sym und ∙ c .before .before .if1 .taken, moved, bits, read)
 
