@@ -50,9 +50,8 @@ Judged plan m (Judgement.Refused r) = ⊥
 -- The plan and the state that the code is given: all that a step reads.
 pub record Kept
     (plan : Plan) (works : List Working) (sizes : Sizes) (updates : ℕ) (cards priorities : List ℕ)
-    (counts kinds targets sources amounts : List ℕ) (state : State) (store : List ℕ) (addr old new commits :
-    List (List ℕ))
-    : Type 0 where
+    (counts kinds targets sources amounts : List ℕ) (state : State) (store : List ℕ)
+    (addr old new commits : List (List ℕ)) : Type 0 where
   pub plan-is : PlanIs plan sizes updates cards priorities
   pub moves-are : MovesAre plan counts kinds targets sources amounts
   pub stands : Stands plan (machineOf (state .cells) works store addr old new) (state .entries)

@@ -62,8 +62,8 @@ pub fn run(text: &[u8], buffer: &mut [u8]) -> Ended
 
 // Runs a text, and hands back the written part of the buffer, empty where no report is written.
 pub fn run_part<'a>(text: &[u8], buffer: &'a mut [u8]) -> &'a mut [u8]
-    ensures { λ r. ⌜ (now r ≡ handed (runText (now (text .entry))) (now (buffer .entry))) × (ptr r ≡ ptr
-        (buffer .entry)) ⌝ }
+    ensures { λ r. ⌜ now r ≡ handed (runText (now (text .entry))) (now (buffer .entry)) ⌝ }
+    ensures { λ r. ⌜ ptr r ≡ ptr (buffer .entry) ⌝ }
 {
     let ended = run(text, buffer);
     let length = ended.length;

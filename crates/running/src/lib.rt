@@ -60,9 +60,9 @@ pub fn run_entries(
 ) -> Ran
     requires { ⌜ line ≤ 65537 ⌝ }
     requires { ⌜ ((plan : Plan) × Starts plan sizes updates (now cards) (now priorities) (now counts) (now kinds)
-        (now targets) (now sources) (now amounts) (entriesOf (sizes .words) line (linesFrom (now text)
-        first)) (now store)
-        (now addr) (now old) (now new) (now commits)) ⌝ }
+        (now targets) (now sources) (now amounts)
+        (entriesOf (sizes .words) line (linesFrom (now text) first)) (now store) (now addr) (now old) (now new)
+        (now commits)) ⌝ }
     ensures { λ r. ⌜ ((plan : Plan) → Starts plan sizes updates (now (cards .entry)) (now (priorities .entry))
         (now (counts .entry)) (now (kinds .entry)) (now (targets .entry)) (now (sources .entry)) (now (amounts .entry))
         (entriesOf (sizes .words) line (linesFrom (now (text .entry)) first)) (now (store .entry)) (now (addr .entry))
