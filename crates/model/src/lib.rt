@@ -1,5 +1,6 @@
-// The types of the machine. specs/ has the step list, the one-after-another memory, the history, demand 3 and the stock
-// rule as definitions over these types, and proofs/ the proof of demand 3 and of the stock rule. No code.
+// The types of the machine. specs/ has the step list, the one-after-another memory, the history, the ranges of its
+// numbers, demand 3 and the stock rule as definitions over these types, and proofs/ the proof of demand 3 and of the
+// stock rule. No code.
 
 // The stage of a read or a write that a job is inside of. A read has Check, List and Take; a write has Check, List,
 // Copy and Write.

@@ -1,3 +1,4 @@
+-- `a1` is the item A1 of the step list. Assumes nothing.
 use borrow.Author.Needs.{needs}
 use Rattle.model.specs.Steps.{item}
 use Rattle.announcing.proofs.a1.Statement.{statement}

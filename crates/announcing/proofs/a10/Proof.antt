@@ -1,3 +1,4 @@
+-- `a10` is the item A10 of the step list. Assumes nothing.
 use Prim.Native.Nat.{_+_, _%_}
 use native.Mathlib.Nat.{mod-lt}
 use native.Mathlib.Omega.{arith}

@@ -1,3 +1,4 @@
+-- `a12` is the item A12 of the step list. Assumes nothing.
 use mathlib.Core.Path.{sym, _∙_, _≡_}
 use borrow.Author.Needs.{needs}
 use mathlib.Core.Bool.{true}

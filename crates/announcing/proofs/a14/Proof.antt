@@ -1,3 +1,4 @@
+-- `a14` is the item A14 of the step list. Assumes nothing.
 use borrow.Author.Needs.{needs}
 use borrow.Author.Tests.{eq-eqb, ne-eqb}
 use Rattle.model.specs.Lists.{if_then_else_}

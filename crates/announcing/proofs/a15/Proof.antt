@@ -1,3 +1,4 @@
+-- `a15` is the item A15 of the step list. Assumes nothing.
 use borrow.Author.Needs.{needs}
 use Rattle.model.specs.Steps.{item}
 use Rattle.announcing.proofs.a15.Statement.{statement}

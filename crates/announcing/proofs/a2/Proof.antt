@@ -1,3 +1,4 @@
+-- `a2` is the item A2 of the step list. Assumes nothing.
 use borrow.Author.Needs.{needs}
 use Rattle.model.specs.Steps.{item}
 use Rattle.announcing.proofs.a2.Statement.{statement}

@@ -1,3 +1,4 @@
+-- `a4` is the item A4 of the step list. Assumes nothing.
 use native.Mathlib.Omega.{arith}
 use borrow.Author.Needs.{needs}
 use borrow.Author.Tests.{eq-eqb, ne-eqb}

@@ -1,3 +1,4 @@
+-- `a7` is the item A7 of the step list. Assumes nothing.
 use Prim.Native.Nat.{ℕ, _<_, _%_}
 use mathlib.Core.Path.{_≡_, sym, _∙_}
 use mathlib.Core.Bool.{Bool, true, false, not, _&&_, _||_}

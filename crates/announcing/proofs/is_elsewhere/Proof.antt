@@ -1,3 +1,4 @@
+-- `is_elsewhere` meets its contract. Assumes nothing.
 use borrow.Author.Needs.{needs}
 use borrow.Author.Tests.{eq-eqb, ne-eqb}
 use Rattle.announcing.proofs.is_elsewhere.Statement.{statement}

@@ -1,3 +1,4 @@
+-- `after_store` meets its contract. Assumes nothing.
 use borrow.Author.Tests.{lt-ltb, le-ltb}
 use Rattle.model.specs.Lists.{if_then_else_}
 use borrow.Author.Needs.{needs}

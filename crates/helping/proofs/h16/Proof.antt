@@ -1,3 +1,4 @@
+-- `h16` is the item H16 of the step list. Assumes nothing.
 use Prim.Native.Nat.{_%_, _<_}
 use mathlib.Core.Path.{_∙_}
 use native.Mathlib.Nat.{mod-lt}

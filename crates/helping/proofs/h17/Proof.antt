@@ -1,3 +1,4 @@
+-- `h17` is the item H17 of the step list. Assumes nothing.
 use mathlib.Core.Path.{sym, _∙_}
 use native.Mathlib.Omega.{arith}
 use lib.IntN.{pos}

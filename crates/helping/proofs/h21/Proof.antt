@@ -1,3 +1,4 @@
+-- `h21` is the item H21 of the step list. Assumes nothing.
 use mathlib.Core.Path.{_∙_}
 use mathlib.Core.List.{[]}
 use lib.ListN.{getD}

@@ -1,3 +1,4 @@
+-- `h22` is the item H22 of the step list. Assumes nothing.
 use mathlib.Core.Path.{_∙_}
 use Rattle.model.specs.Steps.{item}
 use borrow.Author.Needs.{needs}

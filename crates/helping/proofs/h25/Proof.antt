@@ -1,3 +1,4 @@
+-- `h25` is the item H25 of the step list. Assumes nothing.
 use mathlib.Core.Path.{sym, _∙_, _≡_}
 use native.Mathlib.Omega.{arith}
 use mir.Syntax.{w32}

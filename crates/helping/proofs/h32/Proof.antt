@@ -1,3 +1,4 @@
+-- `h32` is the item H32 of the step list. Assumes nothing.
 use mathlib.Core.Path.{sym, _∙_, _≡_}
 use native.Mathlib.Omega.{arith}
 use mir.Syntax.{w32}

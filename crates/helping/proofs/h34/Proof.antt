@@ -1,3 +1,4 @@
+-- `h34` is the item H34 of the step list. Assumes nothing.
 use mathlib.Core.Path.{sym, ap, _∙_}
 use borrow.Author.Tests.{eq-eqb, ne-eqb}
 use Rattle.model.specs.Status.{jobNamed}

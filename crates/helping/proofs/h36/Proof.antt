@@ -1,3 +1,4 @@
+-- `h36` is the item H36 of the step list. Assumes nothing.
 use mathlib.Core.Path.{sym, _∙_, _≡_}
 use Rattle.model.specs.Lists.{if_then_else_}
 use Rattle.model.specs.Steps.{item, sameVersion}

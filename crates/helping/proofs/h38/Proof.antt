@@ -1,3 +1,4 @@
+-- `h38` is the item H38 of the step list. Assumes nothing.
 use mathlib.Core.Path.{sym, ap, _∙_}
 use Rattle.model.specs.Status.{jobNamed}
 use Rattle.model.specs.Steps.{item}

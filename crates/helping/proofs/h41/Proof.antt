@@ -1,3 +1,4 @@
+-- `h41` is the item H41 of the step list. Assumes nothing.
 use mathlib.Core.Path.{sym, _∙_}
 use Rattle.model.specs.Lists.{if_then_else_}
 use Rattle.model.specs.Steps.{item}

@@ -1,3 +1,4 @@
+-- `h42` is the item H42 of the step list. Assumes nothing.
 use mathlib.Core.Path.{sym, _∙_}
 use native.Mathlib.Omega.{arith}
 use mir.Syntax.{w32}

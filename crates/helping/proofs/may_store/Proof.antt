@@ -1,3 +1,4 @@
+-- `may_store` meets its contract. Assumes nothing.
 use mathlib.Core.Path.{sym, _∙_, _≡_}
 use borrow.Author.Needs.{needs}
 use mathlib.Core.Bool.{true}

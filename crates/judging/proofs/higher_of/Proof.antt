@@ -1,3 +1,4 @@
+-- `higher_of` meets its contract. Assumes nothing.
 use lib.ListN.{getD}
 use denote.Ref.{now}
 use borrow.Author.Tests.{eq-eqb, ne-eqb, lt-ltb, le-ltb}

@@ -1,3 +1,4 @@
+-- `judge` meets its contract. Assumes nothing.
 use mathlib.Core.Path.{ap}
 use Rattle.model.specs.Entries.{judge as judgeEntry}
 use borrow.Author.Tests.{eq-eqb, ne-eqb}

@@ -1,3 +1,4 @@
+-- `judge_step` meets its contract. Assumes nothing.
 use Prim.Native.Nat.{_<_}
 use mathlib.Core.Path.{ap}
 use native.Mathlib.Omega.{arith}

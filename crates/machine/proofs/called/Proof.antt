@@ -1,3 +1,4 @@
+-- `called` meets its contract. Assumes nothing.
 use borrow.Author.Needs.{needs}
 use Rattle.machine.proofs.called.Statement.{statement}
 use Rattle.machine.proofs.called.Tie as tie

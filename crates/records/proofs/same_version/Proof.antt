@@ -1,3 +1,4 @@
+-- `same_version` meets its contract. Assumes nothing.
 use borrow.Author.Tests.{eq-eqb, ne-eqb}
 use Rattle.model.specs.Steps.{sameVersion}
 use Rattle.records.proofs.same_version.Statement.{statement}

@@ -1,3 +1,4 @@
+-- `opened` meets its contract. Assumes nothing.
 use mathlib.Core.Path.{refl, ap}
 use Rattle.format.specs.declared.Sizes.{Sizes}
 use borrow.Author.Needs.{needs}

@@ -1,3 +1,4 @@
+-- `finish` meets its contract. Assumes nothing.
 use Rattle.text_run.proofs.Laws.{written-whole, written-none}
 use borrow.Author.Needs.{needs}
 use Rattle.text_run.proofs.finish.Statement.{statement}

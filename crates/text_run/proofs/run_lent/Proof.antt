@@ -1,3 +1,4 @@
+-- `run_lent` meets its contract. Assumes nothing.
 use Prim.Native.Nat.{ℕ, _+_, _*_, _≤_}
 use mathlib.Core.Path.{sym, _∙_, ap}
 use mathlib.Core.List.{List}

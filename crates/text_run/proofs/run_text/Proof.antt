@@ -1,3 +1,4 @@
+-- `run_text` meets its contract. Assumes nothing.
 use mathlib.Core.Path.{sym, _∙_, ap}
 use denote.Ref.{now}
 use Rattle.format.specs.Stored.{readingOf}

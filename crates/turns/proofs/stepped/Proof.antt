@@ -1,3 +1,4 @@
+-- `stepped` meets its contract. Assumes nothing.
 use mathlib.Core.Path.{subst}
 use Rattle.turns.specs.Differs.{OnlyDiffers}
 use Rattle.turns.proofs.Laws.{turns-stay}

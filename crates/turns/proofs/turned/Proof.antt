@@ -1,3 +1,4 @@
+-- `turned` meets its contract. Assumes nothing.
 use native.Mathlib.Omega.{arith}
 use denote.Ref.{now}
 use Rattle.turns.proofs.Laws.{active-after, turns-after}
