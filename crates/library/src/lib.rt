@@ -1,9 +1,29 @@
-// The functions that other languages link (`rt staticlib library`): each calls a public function of the crate
-// reference. A slice is passed as a pointer and a length.
+// The functions that other languages link (`rt staticlib library`, include/point_memory.h). A slice is passed as a
+// pointer and a length. None has a `requires`, and none is handed a state.
 ghost use mathlib.Core.Path.{_≡_};
-ghost use Rattle.runs.specs.Runs.{runText, left};
-ghost use Rattle.reference.specs.Answers.{endedOf};
+ghost use Rattle.format.specs.Reading.{reading, verdictOf};
+ghost use Rattle.runs.specs.Runs.{runText, runSchedule, left};
+ghost use Rattle.reference.specs.Answers.{answerOf, endedOf};
+use format::Entry;
+use format::Form;
+use reference::Answer;
 use reference::Ended;
+
+// Judges a text by the numbers 1 to 10: see reference::check.
+#[no_mangle]
+pub extern "C" fn point_memory_check(text: &[u8]) -> Answer
+    ensures { λ r. ⌜ r ≡ answerOf (verdictOf (reading Form.Schedule (now (text .entry)))) ⌝ }
+{
+    reference::answer_of(reference::check(text, Form::Schedule))
+}
+
+// The same of a plan's text, in which an entry line is 3.
+#[no_mangle]
+pub extern "C" fn point_memory_check_plan(text: &[u8]) -> Answer
+    ensures { λ r. ⌜ r ≡ answerOf (verdictOf (reading Form.PlanAlone (now (text .entry)))) ⌝ }
+{
+    reference::answer_of(reference::check(text, Form::PlanAlone))
+}
 
 // Runs a text: see reference::run.
 #[no_mangle]
@@ -12,4 +32,42 @@ pub extern "C" fn point_memory_run(text: &[u8], buffer: &mut [u8]) -> Ended
     ensures { λ _. ⌜ now (buffer .exit) ≡ left (runText (now (text .entry))) (now (buffer .entry)) ⌝ }
 {
     reference::run(text, buffer)
+}
+
+// "A whole schedule, already read into entry records, can also be run": the records run one after another beside a
+// plan's text. The report stands in the first places of the lent buffer; what lies
+// behind it stays as it was, and where no report is written all of it does.
+#[no_mangle]
+pub extern "C" fn point_memory_run_schedule(
+    text: &[u8],
+    records: &[Entry],
+    buffer: &mut [u8],
+) -> Ended
+    ensures { λ r. ⌜ r
+        ≡ endedOf (runSchedule (now (text .entry)) (now (records .entry))) (now (buffer .entry)) ⌝ }
+    ensures { λ _. ⌜ now (buffer .exit)
+        ≡ left (runSchedule (now (text .entry)) (now (records .entry))) (now (buffer .entry)) ⌝ }
+{
+    let mut store = [0u32; 2304];
+    let empty = [0u8; 16];
+    let mut addr = [empty; 16];
+    let mut old = [empty; 16];
+    let mut new = [empty; 16];
+    let none = [0u32; 3];
+    let mut commits = [none; 4000];
+    let count = records.len();
+    let begun = record_run::begin(text, count, &mut store);
+    let walk = record_run::run_begun(
+        records,
+        begun,
+        &mut store,
+        &mut addr,
+        &mut old,
+        &mut new,
+        &mut commits,
+    );
+    let verdict = begun.verdict;
+    let plan = begun.plan;
+    let sizes = plan.sizes;
+    record_run::finish(verdict, count, sizes, walk, &store, &commits, buffer)
 }

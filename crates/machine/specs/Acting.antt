@@ -5,13 +5,14 @@ use mathlib.Core.Path.{_≡_}
 use mathlib.Core.Bool.{Bool, true, cond, _&&_}
 use mathlib.Core.List.{List, [], _∷_, _++_}
 use lib.Dec.{eqb}
-use lib.ListN.{length, take}
+use lib.ListN.{length, getD, set, take}
 use Rattle.format.specs.declared.Sizes.{Sizes}
 use Rattle.format.specs.Plan.{Plan}
 use Rattle.model.specs.declared.Place.{Place}
 use Rattle.model.specs.declared.Working.{Working}
 use Rattle.model.specs.declared.Judgement.{Judgement}
 use Rattle.model.specs.Places.{label, isActive}
+use Rattle.model.specs.Working.{noWork}
 use Rattle.model.specs.Machine.{Machine, workOf, itemOf}
 use Rattle.model.specs.Entries.{acted}
 use Rattle.judging.specs.Turns.{PlanIs, Turns}
@@ -71,3 +72,28 @@ pub record Acts
   pub few-commits : after .commits ≤ after .entries
   pub all-commits : length rows′ ≡ 4000
   pub rows-are : take (after .commits) rows′ ≡ take (before .commits) rows ++ rowsBy plan m j (before .entries) update
+
+-- What acting on a judged entry asks, of what it is given: w is the record of the job that the entry changes.
+abbrev pub Asked : Judgement → Working → Sizes → List ℕ → List ℕ → List ℕ → List ℕ → List ℕ → List ℕ → List ℕ → State
+    → List ℕ → List (List ℕ) → List (List ℕ) → List (List ℕ) → List (List ℕ) → Type 0
+Asked j w sizes cards priorities counts kinds targets sources amounts state store addr old new commits =
+    (plan : Plan) × (works : List Working) × (updates : ℕ)
+    × (Kept plan works sizes updates cards priorities counts kinds targets sources amounts state store addr old new
+    commits
+    × (Judged plan (machineOf (state .cells) works store addr old new) j
+    × ((getD works (changedBy j) noWork ≡ w) × (state .entries < 4000))))
+
+-- What it gives, from what it was given (of the rows' tables and of the store before and after it): w is that record
+-- before it and w′ after it, and `update` is that of the record of the job that w helps.
+abbrev pub Gives : Judgement → Working → ℕ → Sizes → List ℕ → List ℕ → List ℕ → List ℕ → List ℕ → List ℕ → List ℕ
+    → State → List ℕ → List (List ℕ) → List (List ℕ) → List (List ℕ) → List (List ℕ) → State → Working → List ℕ
+    → List (List ℕ) → List (List ℕ) → List (List ℕ) → List (List ℕ) → Type 0
+Gives j w update sizes cards priorities counts kinds targets sources amounts state store addr old new commits
+    state′ w′ store′ addr′ old′ new′ commits′ =
+    (plan : Plan) (works : List Working) (updates : ℕ)
+    → Kept plan works sizes updates cards priorities counts kinds targets sources amounts state store addr old new
+    commits
+    → Judged plan (machineOf (state .cells) works store addr old new) j
+    → getD works (changedBy j) noWork ≡ w
+    → Acts plan (machineOf (state .cells) works store addr old new) j state commits update state′
+    (machineOf (state′ .cells) (set works (changedBy j) w′) store′ addr′ old′ new′) commits′

@@ -1,13 +1,11 @@
 // The machine: what a judged entry does. The working records stay where the caller keeps them: one of them goes in and
 // comes back by value.
 ghost use mathlib.Core.Path.{_≡_};
-ghost use mathlib.Core.List.{List, _++_};
-ghost use Prim.Native.Nat.{ℕ, _≤_, _<_, _+_};
-ghost use lib.ListN.{length, getD, set, take};
-ghost use Rattle.format.specs.Plan.{Plan};
-ghost use Rattle.model.specs.Working.{noWork, called as calledWith};
-ghost use Rattle.stores.specs.Carried.{machineOf};
-ghost use Rattle.machine.specs.Acting.{commitsAt, rowOf, changedBy, Judged, Kept, Acts};
+ghost use mathlib.Core.List.{_++_};
+ghost use Prim.Native.Nat.{_≤_, _<_, _+_};
+ghost use lib.ListN.{length, take};
+ghost use Rattle.model.specs.Working.{called as calledWith};
+ghost use Rattle.machine.specs.Acting.{commitsAt, rowOf, changedBy, Asked, Gives};
 use format::Sizes;
 use model::Cells;
 use model::Judgement;
@@ -92,44 +90,33 @@ fn add_row(
 }
 
 // "A `step` does one item for the active job p of highest priority on card R."
-fn act_step(
+fn act_step<'a, 'b>(
     state: State,
     p: usize,
     w: Working,
     update: u8,
     sizes: Sizes,
-    cards: &[u8; 16],
-    priorities: &[u8; 16],
-    counts: &[u8; 32],
-    kinds: &[u8; 512],
-    targets: &[u8; 512],
-    sources: &[u8; 512],
-    amounts: &[u32; 512],
-    store: &mut [u32],
-    addr: &mut [[u8; 16]; 16],
-    old: &mut [[u8; 16]; 16],
-    new: &mut [[u8; 16]; 16],
-    commits: &mut [[u32; 3]; 4000],
+    cards: &'a [u8; 16],
+    priorities: &'a [u8; 16],
+    counts: &'a [u8; 32],
+    kinds: &'a [u8; 512],
+    targets: &'a [u8; 512],
+    sources: &'a [u8; 512],
+    amounts: &'a [u32; 512],
+    store: &'b mut [u32],
+    addr: &'b mut [[u8; 16]; 16],
+    old: &'b mut [[u8; 16]; 16],
+    new: &'b mut [[u8; 16]; 16],
+    commits: &'b mut [[u32; 3]; 4000],
 ) -> Acted
-    requires { ⌜ ((plan : Plan) × (works : List Working) × (updates : ℕ) × (Kept plan works sizes updates (now cards)
-        (now priorities) (now counts) (now kinds) (now targets) (now sources) (now amounts) state (now store) (now addr)
-        (now old) (now new) (now commits)
-        × (Judged plan (machineOf (state .cells) works (now store) (now addr) (now old) (now new)) (Judgement.Runs p)
-        × ((getD works p noWork ≡ w) × (state .entries < 4000))))) ⌝ }
-    ensures { λ r. ⌜ ((plan : Plan) (works : List Working) (updates : ℕ) → Kept plan works sizes updates
-        (now (cards .entry)) (now (priorities .entry)) (now (counts .entry)) (now (kinds .entry)) (now (targets .entry))
-        (now (sources .entry)) (now (amounts .entry)) state (now (store .entry)) (now (addr .entry)) (now (old .entry))
-        (now (new .entry)) (now (commits .entry))
-        → Judged plan
-        (machineOf (state .cells) works (now (store .entry)) (now (addr .entry)) (now (old .entry)) (now (new .entry)))
-        (Judgement.Runs p)
-        → getD works p noWork ≡ w
-        → Acts plan
-        (machineOf (state .cells) works (now (store .entry)) (now (addr .entry)) (now (old .entry)) (now (new .entry)))
-        (Judgement.Runs p) state (now (commits .entry)) update (r .state)
-        (machineOf (r .state .cells) (set works p (r .work)) (now (store .exit)) (now (addr .exit)) (now (old .exit))
-        (now (new .exit)))
-        (now (commits .exit))) ⌝ }
+    requires { ⌜ Asked (Judgement.Runs p) w sizes (now cards) (now priorities) (now counts)
+        (now kinds) (now targets) (now sources) (now amounts) state (now store) (now addr) (now old) (now new)
+        (now commits) ⌝ }
+    ensures { λ r. ⌜ Gives (Judgement.Runs p) w update sizes (now (cards .entry)) (now (priorities .entry))
+        (now (counts .entry)) (now (kinds .entry)) (now (targets .entry)) (now (sources .entry)) (now (amounts .entry))
+        state (now (store .entry)) (now (addr .entry)) (now (old .entry)) (now (new .entry)) (now (commits .entry))
+        (r .state) (r .work) (now (store .exit)) (now (addr .exit)) (now (old .exit)) (now (new .exit))
+        (now (commits .exit)) ⌝ }
 {
     let cells = state.cells;
     let turn = state.turn;
@@ -179,44 +166,33 @@ fn act_step(
 
 // What a judged entry does that is not refused. The record w is that of the job that it changes, and `update` is that
 // of the record of the job w helps.
-pub fn act(
+pub fn act<'a, 'b>(
     state: State,
     judgement: Judgement,
     w: Working,
     update: u8,
     sizes: Sizes,
-    cards: &[u8; 16],
-    priorities: &[u8; 16],
-    counts: &[u8; 32],
-    kinds: &[u8; 512],
-    targets: &[u8; 512],
-    sources: &[u8; 512],
-    amounts: &[u32; 512],
-    store: &mut [u32],
-    addr: &mut [[u8; 16]; 16],
-    old: &mut [[u8; 16]; 16],
-    new: &mut [[u8; 16]; 16],
-    commits: &mut [[u32; 3]; 4000],
+    cards: &'a [u8; 16],
+    priorities: &'a [u8; 16],
+    counts: &'a [u8; 32],
+    kinds: &'a [u8; 512],
+    targets: &'a [u8; 512],
+    sources: &'a [u8; 512],
+    amounts: &'a [u32; 512],
+    store: &'b mut [u32],
+    addr: &'b mut [[u8; 16]; 16],
+    old: &'b mut [[u8; 16]; 16],
+    new: &'b mut [[u8; 16]; 16],
+    commits: &'b mut [[u32; 3]; 4000],
 ) -> Acted
-    requires { ⌜ ((plan : Plan) × (works : List Working) × (updates : ℕ) × (Kept plan works sizes updates (now cards)
-        (now priorities) (now counts) (now kinds) (now targets) (now sources) (now amounts) state (now store) (now addr)
-        (now old) (now new) (now commits)
-        × (Judged plan (machineOf (state .cells) works (now store) (now addr) (now old) (now new)) judgement
-        × ((getD works (changedBy judgement) noWork ≡ w) × (state .entries < 4000))))) ⌝ }
-    ensures { λ r. ⌜ ((plan : Plan) (works : List Working) (updates : ℕ) → Kept plan works sizes updates
-        (now (cards .entry)) (now (priorities .entry)) (now (counts .entry)) (now (kinds .entry)) (now (targets .entry))
-        (now (sources .entry)) (now (amounts .entry)) state (now (store .entry)) (now (addr .entry)) (now (old .entry))
-        (now (new .entry)) (now (commits .entry))
-        → Judged plan
-        (machineOf (state .cells) works (now (store .entry)) (now (addr .entry)) (now (old .entry)) (now (new .entry)))
-        judgement
-        → getD works (changedBy judgement) noWork ≡ w
-        → Acts plan
-        (machineOf (state .cells) works (now (store .entry)) (now (addr .entry)) (now (old .entry)) (now (new .entry)))
-        judgement state (now (commits .entry)) update (r .state)
-        (machineOf (r .state .cells) (set works (changedBy judgement) (r .work)) (now (store .exit)) (now (addr .exit))
-        (now (old .exit)) (now (new .exit)))
-        (now (commits .exit))) ⌝ }
+    requires { ⌜ Asked judgement w sizes (now cards) (now priorities) (now counts)
+        (now kinds) (now targets) (now sources) (now amounts) state (now store) (now addr) (now old) (now new)
+        (now commits) ⌝ }
+    ensures { λ r. ⌜ Gives judgement w update sizes (now (cards .entry)) (now (priorities .entry))
+        (now (counts .entry)) (now (kinds .entry)) (now (targets .entry)) (now (sources .entry)) (now (amounts .entry))
+        state (now (store .entry)) (now (addr .entry)) (now (old .entry)) (now (new .entry)) (now (commits .entry))
+        (r .state) (r .work) (now (store .exit)) (now (addr .exit)) (now (old .exit)) (now (new .exit))
+        (now (commits .exit)) ⌝ }
 {
     match judgement {
         Judgement::Calls(job, u) => {

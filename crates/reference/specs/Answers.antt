@@ -7,6 +7,7 @@ use Rattle.format.specs.declared.Verdict.{Verdict}
 use Rattle.format.specs.Faults.{numberOf}
 use Rattle.runs.specs.Report.{endNumber, endLine}
 use Rattle.runs.specs.Runs.{Outcome, ended, handed}
+use Rattle.text_run.specs.declared.Finished.{Finished}
 use Rattle.reference.specs.declared.Answer.{Answer}
 use Rattle.reference.specs.declared.Ended.{Ended}
 
@@ -14,6 +15,10 @@ use Rattle.reference.specs.declared.Ended.{Ended}
 abbrev pub answerOf : Verdict → Answer
 answerOf (Verdict.Accepted n) = record { number = 0; line = n }
 answerOf (Verdict.Refused f n) = record { number = numberOf f; line = n }
+
+-- How a run ended, by its number and line.
+abbrev pub endedBy : Finished → Ended
+endedBy f = record { number = endNumber (f .end); line = endLine (f .end); length = f .length }
 
 -- The number, the line and the length of the report of an outcome, with a buffer lent.
 abbrev pub endedOf : Outcome → List ℕ → Ended

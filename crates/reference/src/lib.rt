@@ -2,12 +2,14 @@
 ghost use mathlib.Core.Path.{_≡_};
 ghost use Rattle.format.specs.Reading.{reading, verdictOf};
 ghost use Rattle.runs.specs.Runs.{runText, handed, left};
-ghost use Rattle.reference.specs.Answers.{answerOf, endedOf};
+ghost use Rattle.reference.specs.Answers.{answerOf, endedBy, endedOf};
 ghost use denote.Ref.{ptr};
 use format::Form;
 use format::Verdict;
+use text_run::Finished;
 
 // A number of the table with its line: 0 with the count of all lines, or a refusal with the line where it was met.
+#[repr(C)]
 pub struct Answer {
     pub number: usize,
     pub line: usize,
@@ -45,6 +47,18 @@ pub struct Ended {
     pub length: usize,
 }
 
+// How a run ended, by its number and line.
+pub fn ended_of(finished: Finished) -> Ended
+    ensures { λ r. ⌜ r ≡ endedBy finished ⌝ }
+{
+    let end = finished.end;
+    Ended {
+        number: text_run::end_number(end),
+        line: text_run::end_line(end),
+        length: finished.length,
+    }
+}
+
 // Runs a text. The report stands in the first places of the lent buffer; what lies behind it stays as it was, and where
 // no report is written all of it does.
 pub fn run(text: &[u8], buffer: &mut [u8]) -> Ended
@@ -52,12 +66,7 @@ pub fn run(text: &[u8], buffer: &mut [u8]) -> Ended
     ensures { λ _. ⌜ now (buffer .exit) ≡ left (runText (now (text .entry))) (now (buffer .entry)) ⌝ }
 {
     let finished = text_run::run_text(text, buffer);
-    let end = finished.end;
-    Ended {
-        number: text_run::end_number(end),
-        line: text_run::end_line(end),
-        length: finished.length,
-    }
+    ended_of(finished)
 }
 
 // Runs a text, and hands back the written part of the buffer, empty where no report is written.

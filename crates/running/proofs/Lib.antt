@@ -1,4 +1,5 @@
--- Laws of a run, one entry after another.
+-- The laws of a run.
 pub mod Onward
-pub mod Going
 pub mod Steps
+pub mod Starting
+pub mod Text

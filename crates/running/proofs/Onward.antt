@@ -89,6 +89,12 @@ module _ (plan : Plan) where
       ap (λ s. foldl (entered plan) (unlessRefused s r (judged plan r (judge plan (r .machine) f))) fs) e
       ∙ stopped r x fs e
 
+  -- A run that has stopped comes to the same with more entries.
+  pub run-stopped : (es fs : List Entry) (x : Refusal) → runOf plan es .refusal ≡ some x
+      → runOf plan (es ++ fs) ≡ runOf plan es
+  unfolding runOf
+  run-stopped es fs x e = fold-more (entered plan) (begun plan) es fs ∙ stopped (runOf plan es) x fs e
+
   -- A refused entry ends the run: the state and the history stay, whatever comes behind it.
   pub run-refused : (es : List Entry) (e : Entry) (fs : List Entry) (x : Refusal) → runOf plan es .refusal ≡ none
       → judge plan (runOf plan es .machine) e ≡ Judgement.Refused x

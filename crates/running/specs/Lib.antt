@@ -1,3 +1,4 @@
--- What a run from a text promises.
+-- What a run promises.
 pub mod Rows
 pub mod Schedules
+pub mod Rans

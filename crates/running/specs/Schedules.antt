@@ -1,10 +1,9 @@
--- What the code of a run has reached: the state that the definitions give for the entries read so far, or for all of
--- them. Assumes nothing.
+-- What the code of a run has reached: the state that the definitions give for the entries that have run so far, or for
+-- all of them. Assumes nothing.
 use Prim.Native.Nat.{ℕ, _+_, _≤_}
 use mathlib.Core.Path.{_≡_}
-use mathlib.Core.Bool.{Bool}
-use mathlib.Core.List.{List, _++_, map}
-use mathlib.Core.Option.{none}
+use mathlib.Core.List.{List, _∷_, _++_, map}
+use mathlib.Core.Option.{Option, none, some}
 use lib.ListN.{length, take, replicate}
 use Rattle.format.specs.declared.Sizes.{Sizes}
 use Rattle.format.specs.declared.Entry.{Entry}
@@ -13,52 +12,84 @@ use Rattle.format.specs.Sound.{Sound}
 use Rattle.format.specs.Reading.{entriesOf}
 use Rattle.model.specs.declared.Working.{Working}
 use Rattle.model.specs.declared.Cells.{Cells}
+use Rattle.model.specs.declared.Refusal.{Refusal}
 use Rattle.model.specs.Machine.{openingStore, openingOf}
 use Rattle.model.specs.History.{commitsIn, runOf}
 use Rattle.runs.specs.declared.End.{End}
-use Rattle.runs.specs.Runs.{endOf, lineIn}
+use Rattle.runs.specs.Runs.{endOf}
 use Rattle.entries.specs.EntryLines.{linesFrom}
 use Rattle.judging.specs.Turns.{PlanIs, Turns}
 use Rattle.items.specs.Standing.{MovesAre}
 use Rattle.stores.specs.Carried.{machineOf}
 use Rattle.machine.specs.declared.State.{State}
+use Rattle.running.specs.declared.Halt.{Halt}
+use Rattle.running.specs.declared.Progress.{Progress}
 use Rattle.running.specs.Rows.{rowsIn}
 
 -- The entries without their lines.
 abbrev pub entriesIn : List Listed → List Entry
 entriesIn ls = map (λ (l : Listed). l .entry) ls
 
--- A run goes on at a place of the text: the entries before it are done and none was refused, those from it on are left.
-pub record Going
-    (plan : Plan) (listed : List Listed) (text : List ℕ) (cells : Cells) (works : List Working) (active : List Bool)
-    (running : List ℕ) (entries commits : ℕ) (store : List ℕ) (addr old new rows : List (List ℕ)) (at line : ℕ)
+-- The refusal that has stopped a run, where one has.
+abbrev pub refusalOf : Halt → Option Refusal
+refusalOf Halt.Going = none
+refusalOf (Halt.Refused r) = some r
+
+-- A sound plan stands in these arrays.
+pub record Stored
+    (plan : Plan) (sizes : Sizes) (updates : ℕ) (cards priorities counts kinds targets sources amounts : List ℕ)
     : Type 0 where
+  pub sound : Sound plan
+  pub plan-is : PlanIs plan sizes updates cards priorities
+  pub moves-are : MovesAre plan counts kinds targets sources amounts
+
+-- A run has come through the entries `done` of the schedule `all`.
+pub record Reached
+    (plan : Plan) (all done : List Entry) (progress : Progress) (store : List ℕ) (addr old new rows : List (List ℕ))
+    : Type 0 where
+  pub machine-is :
+      machineOf (progress .state .cells) (progress .works) store addr old new ≡ runOf plan done .machine
+  pub stopped-by : refusalOf (progress .halt) ≡ runOf plan done .refusal
+  pub turns :
+      Turns plan (machineOf (progress .state .cells) (progress .works) store addr old new)
+      (progress .state .turn .active) (progress .state .turn .running)
+  pub counted : progress .state .entries ≡ length (runOf plan done .history)
+  pub few-done : progress .state .entries ≤ length done
+  pub few-rows : progress .state .commits ≤ progress .state .entries
+  pub all-rows : length rows ≡ 4000
+  pub rows-are : take (progress .state .commits) rows ≡ rowsIn all (commitsIn (runOf plan done .history))
+
+-- An entry is about to run: it comes behind those done, and the schedule is not too long.
+pub record Enters
+    (plan : Plan) (all done rest : List Entry) (e : Entry) (sizes : Sizes) (updates : ℕ)
+    (cards priorities counts kinds targets sources amounts : List ℕ) (progress : Progress) (store : List ℕ)
+    (addr old new rows : List (List ℕ)) : Type 0 where
+  pub stored : Stored plan sizes updates cards priorities counts kinds targets sources amounts
+  pub all-are : all ≡ done ++ (e ∷ rest)
+  pub few : length all ≤ 4000
+  pub reached : Reached plan all done progress store addr old new rows
+
+-- A run from a text goes on at a place of it: the entries before the place are done and none was refused, those from it
+-- on are left.
+pub record Going
+    (plan : Plan) (listed : List Listed) (text : List ℕ) (progress : Progress) (store : List ℕ)
+    (addr old new rows : List (List ℕ)) (at line : ℕ) : Type 0 where
   pub done : List Listed
   pub split : listed ≡ done ++ entriesOf (plan .sizes .words) line (linesFrom text at)
-  pub going : runOf plan (entriesIn done) .refusal ≡ none
-  pub machine-is : machineOf cells works store addr old new ≡ runOf plan (entriesIn done) .machine
-  pub turns : Turns plan (machineOf cells works store addr old new) active running
-  pub counted : entries ≡ length done
-  pub few-rows : commits ≤ entries
-  pub all-rows : length rows ≡ 4000
-  pub rows-are :
-      take commits rows ≡ rowsIn (entriesIn listed) (commitsIn (runOf plan (entriesIn done) .history))
+  pub reached : Reached plan (entriesIn listed) (entriesIn done) progress store addr old new rows
+  pub goes-on : progress .halt ≡ Halt.Going
   -- the line's number is small
   pub low : line ≤ 65537 + at
 
 -- A run has ended: this is the state that all entries give, or that the refused one left, these are the commits, and
--- this is the end.
+-- this is the end. Entry i, from 0, stands in line `line i`; acceptance gives `count`.
 pub record RunIs
-    (plan : Plan) (listed : List Listed) (lines : ℕ) (cells : Cells) (works : List Working) (commits : ℕ) (end : End)
-    (store : List ℕ) (addr old new rows : List (List ℕ)) : Type 0 where
-  pub machine-is : machineOf cells works store addr old new ≡ runOf plan (entriesIn listed) .machine
+    (plan : Plan) (es : List Entry) (line : ℕ → ℕ) (count : ℕ) (cells : Cells) (works : List Working)
+    (commits : ℕ) (end : End) (store : List ℕ) (addr old new rows : List (List ℕ)) : Type 0 where
+  pub machine-is : machineOf cells works store addr old new ≡ runOf plan es .machine
   pub few-rows : commits ≤ 4000
-  pub rows-are :
-      take commits rows ≡ rowsIn (entriesIn listed) (commitsIn (runOf plan (entriesIn listed) .history))
-  pub end-is :
-      end
-      ≡ endOf (runOf plan (entriesIn listed) .refusal) (lineIn listed (length (runOf plan (entriesIn listed) .history)))
-      lines
+  pub rows-are : take commits rows ≡ rowsIn es (commitsIn (runOf plan es .history))
+  pub end-is : end ≡ endOf (runOf plan es .refusal) (line (length (runOf plan es .history))) count
 
 -- The state before the first entry.
 pub record Opened (plan : Plan) (state : State) : Type 0 where
@@ -66,6 +97,12 @@ pub record Opened (plan : Plan) (state : State) : Type 0 where
   pub turns : Turns plan (openingOf plan) (state .turn .active) (state .turn .running)
   pub none-done : state .entries ≡ 0
   pub none-committed : state .commits ≡ 0
+
+-- A run before its first entry.
+pub record Begun (plan : Plan) (progress : Progress) : Type 0 where
+  pub opened : Opened plan (progress .state)
+  pub works-are : progress .works ≡ openingOf plan .jobs
+  pub goes-on : progress .halt ≡ Halt.Going
 
 -- Rows of the opening: "one row of 16 a job".
 abbrev pub emptyRows : List (List ℕ)
@@ -75,11 +112,9 @@ emptyRows = replicate 16 (replicate 16 0)
 -- memory, and the rows are empty.
 pub record Starts
     (plan : Plan) (sizes : Sizes) (updates : ℕ) (cards priorities counts kinds targets sources amounts : List ℕ)
-    (listed : List Listed) (store : List ℕ) (addr old new rows : List (List ℕ)) : Type 0 where
-  pub sound : Sound plan
-  pub plan-is : PlanIs plan sizes updates cards priorities
-  pub moves-are : MovesAre plan counts kinds targets sources amounts
-  pub few : length listed ≤ 4000
+    (es : List Entry) (store : List ℕ) (addr old new rows : List (List ℕ)) : Type 0 where
+  pub stored : Stored plan sizes updates cards priorities counts kinds targets sources amounts
+  pub few : length es ≤ 4000
   pub store-is : store ≡ openingStore plan
   pub addr-is : addr ≡ emptyRows
   pub old-is : old ≡ emptyRows

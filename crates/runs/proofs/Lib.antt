@@ -5,3 +5,4 @@ pub mod MarkedRuns
 pub mod Buffers
 pub mod WholeAtCommit
 pub mod Backed
+pub mod Records

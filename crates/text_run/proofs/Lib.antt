@@ -1,2 +1,3 @@
--- Why the code of a whole run does what the definitions say.
+-- The laws of a whole text's run.
+pub mod Outcome
 pub mod Laws

@@ -4,15 +4,17 @@ ghost use Prim.Native.Nat.{ℕ, _≤_, _<_};
 ghost use lib.IntN.{pos};
 ghost use lib.ListN.{length, getD};
 ghost use Rattle.format.specs.Faults.{numberOf};
+ghost use Rattle.format.specs.Sound.{Sound};
 ghost use Rattle.format.specs.Reading.{reading};
 ghost use Rattle.format.specs.Stored.{readingOf};
 ghost use Rattle.model.specs.Entries.{refusalNumber as numberInTable};
+ghost use Rattle.model.specs.Machine.{openingStore};
 ghost use Rattle.model.specs.Ranges.{StatusIn};
 ghost use Rattle.runs.specs.Report.{endNumber, endLine};
 ghost use Rattle.runs.specs.Runs.{reported, runText};
 ghost use Rattle.report.specs.Writing.{reportBytes};
 ghost use Rattle.running.specs.Schedules.{emptyRows};
-ghost use Rattle.text_run.specs.Finishing.{WrittenOut, emptyStore};
+ghost use Rattle.text_run.specs.Finishing.{thePlan, WrittenOut, emptyStore};
 use format::Fault;
 use format::Form;
 use format::Sizes;
@@ -84,7 +86,7 @@ pub fn end_line(end: End) -> usize
 }
 
 // The report of a run whose entries have run is written, where there is room for it; 15 is decided here, last.
-fn finish(
+pub fn finish(
     buffer: &mut [u8],
     sizes: Sizes,
     ran: Ran,
@@ -126,6 +128,18 @@ fn finish(
     }
 }
 
+// The opening memory is put into the store, behind the copy blocks.
+pub fn open_store(plan: StoredPlan, store: &mut [u32])
+    requires { ⌜ Sound (thePlan plan) × (now store ≡ emptyStore) ⌝ }
+    ensures { λ _. ⌜ now (store .exit) ≡ openingStore (thePlan plan) ⌝ }
+{
+    let sizes = plan.sizes;
+    let words = plan.words;
+    let memory = sizes.blocks * sizes.words;
+    let start = sizes.jobs * sizes.copies * sizes.words;
+    opening::put_words(store, start, &words[..memory]);
+}
+
 // An accepted text is run in arrays that are lent: the store is zero until the opening memory is put in, and the rows
 // are empty. The entries stand from a place of the text on, whose line has this number.
 fn run_lent(
@@ -150,15 +164,12 @@ fn run_lent(
     let sizes = plan.sizes;
     let cards = plan.cards;
     let priorities = plan.priorities;
-    let words = plan.words;
     let counts = plan.counts;
     let kinds = plan.kinds;
     let targets = plan.targets;
     let sources = plan.sources;
     let amounts = plan.amounts;
-    let memory = sizes.blocks * sizes.words;
-    let start = sizes.jobs * sizes.copies * sizes.words;
-    opening::put_words(store, start, &words[..memory]);
+    open_store(plan, store);
     let ran = running::run_entries(
         text,
         first,

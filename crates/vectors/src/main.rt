@@ -1,12 +1,15 @@
-// The runner over the packs of cases in data/. It checks and runs the text of each case of the kind `run`, and writes
-// where the check's answer or the run's output is not what the case says, and for each pack how many cases agree.
+// The runner over the packs of cases in data/. It checks and runs the text of each case of the kind `run`, runs the
+// plan's text of each case of the kind `schedule` with its records, and writes where the check's answer or the run's
+// output is not what the case says, and for each pack how many cases agree.
 //
 // A pack is case after case: the line `case NAME KIND ROOM INLEN RECLEN OUTLEN`, its words parted by one space, then
 // INLEN bytes of text, RECLEN bytes of records and OUTLEN bytes of what must come out. ROOM is the length of the buffer
-// that is lent for the report, or `-` for one that is large enough. The records are for schedules, which are not run.
+// that is lent for the report, or `-` for one that is large enough. The records, of schedules alone, are lines of three
+// numbers, a kind and two more, parted by one space.
 ghost use Prim.Native.Nat.{_+_, _≤_, _<_};
 ghost use lib.ListN.{length};
 ghost use Rattle.vectors.specs.Places.{Placed, Within};
+use format::Entry;
 use format::Form;
 use libc::STDOUT_FILENO;
 use reference::Answer;
@@ -18,6 +21,9 @@ const ROOM: usize = 1400000;
 
 // Room for the longest report: up to 4,000 commit lines of 18 bytes, 16 block lines of 182, 16 open lines and the end.
 const REPORT: usize = 80000;
+
+// The most records of a case. A schedule of so many is refused.
+const RECORDS: usize = 4002;
 
 // What every byte of the buffer is before a run.
 const MARKER: u8 = 170;
@@ -70,8 +76,21 @@ struct Agreed {
 // What became of a case.
 enum Outcome {
     Ran(Agreed),
-    NotRun,
+    Scheduled(bool),
     Malformed,
+}
+
+// What a record's line says.
+enum RecordRead {
+    Read(Entry),
+    Malformed,
+}
+
+// The records of a case, and how many there are. They are malformed where a line is no record or there are too many.
+struct Records {
+    entries: [Entry; RECORDS],
+    count: usize,
+    malformed: bool,
 }
 
 // How many bytes of a slice are x.
@@ -331,6 +350,92 @@ fn run_text(text: &[u8], room: &mut [u8], n: usize) -> Ended
     reference::run(text, &mut room[..n])
 }
 
+// The record that a line `kind first second` gives.
+fn read_record(line: &[u8]) -> RecordRead {
+    if count(line, b' ') != 2 {
+        return RecordRead::Malformed;
+    }
+    let Number::Value(kind) = text::number_of(word(line, b' ', 0)) else {
+        return RecordRead::Malformed;
+    };
+    let Number::Value(first) = text::number_of(word(line, b' ', 1)) else {
+        return RecordRead::Malformed;
+    };
+    let Number::Value(second) = text::number_of(word(line, b' ', 2)) else {
+        return RecordRead::Malformed;
+    };
+    RecordRead::Read(Entry {
+        kind,
+        first,
+        second,
+    })
+}
+
+// The records so far, with those of more lines, from a place on.
+fn add_records(records: Records, bytes: &[u8], from: usize) -> Records {
+    let mut entries = records.entries;
+    let mut n = records.count;
+    let mut at = from;
+    while at < bytes.len() {
+        let end = text::find(bytes, at, b'\n');
+        let RecordRead::Read(e) = read_record(&bytes[at..end]) else {
+            return Records {
+                entries,
+                count: n,
+                malformed: true,
+            };
+        };
+        if n >= RECORDS {
+            return Records {
+                entries,
+                count: n,
+                malformed: true,
+            };
+        }
+        entries[n] = e;
+        n += 1;
+        at = end + 1;
+    }
+    Records {
+        entries,
+        count: n,
+        malformed: false,
+    }
+}
+
+// The records of a case.
+fn read_records(bytes: &[u8]) -> Records {
+    let none = Entry {
+        kind: 0,
+        first: 0,
+        second: 0,
+    };
+    let entries = [none; RECORDS];
+    add_records(
+        Records {
+            entries,
+            count: 0,
+            malformed: false,
+        },
+        bytes,
+        0,
+    )
+}
+
+// Runs a plan's text with the first records of some, with n bytes lent for the report.
+fn run_schedule(
+    text: &[u8],
+    entries: [Entry; RECORDS],
+    count: usize,
+    room: &mut [u8],
+    n: usize,
+) -> Ended
+    requires { ⌜ (count ≤ 4002) × (n ≤ length (now room)) ⌝ }
+    ensures { λ r. ⌜ r .length ≤ n ⌝ }
+{
+    record_array::run_first(text, entries, count, &mut room[..n])
+}
+
 // Whether the bytes from a place on are all as before the run.
 fn kept(bytes: &[u8], from: usize) -> bool
     requires { ⌜ from ≤ length (now bytes) ⌝ }
@@ -370,8 +475,30 @@ fn compare_end(
     true
 }
 
-// Runs the text of a case with n bytes lent. Writes a line where its output is not what is wanted, or it wrote past its
-// report.
+// Whether a run ended with the output that is wanted, and wrote nothing past its report. Writes a line where not.
+fn compare_run(
+    pack_name: &[u8],
+    case_name: &[u8],
+    output: &[u8],
+    end: Answer,
+    ended: Ended,
+    room: &[u8],
+) -> bool
+    requires { ⌜ ended .length ≤ length (now room) ⌝ }
+{
+    let written = ended.length;
+    let got = Answer {
+        number: ended.number,
+        line: ended.line,
+    };
+    let is_kept = kept(room, written);
+    if !compare_end(pack_name, case_name, got, end, is_kept) {
+        return false;
+    }
+    compare_report(pack_name, case_name, &room[..written], output)
+}
+
+// Runs the text of a case with n bytes lent, and compares.
 fn try_case(
     pack_name: &[u8],
     case_name: &[u8],
@@ -385,16 +512,34 @@ fn try_case(
 {
     fill(room, MARKER);
     let ended = run_text(text, room, n);
-    let written = ended.length;
-    let got = Answer {
-        number: ended.number,
-        line: ended.line,
-    };
-    let is_kept = kept(room, written);
-    if !compare_end(pack_name, case_name, got, end, is_kept) {
-        return false;
+    compare_run(pack_name, case_name, output, end, ended, room)
+}
+
+// Runs the plan's text of a case with its records, with n bytes lent, and compares.
+fn try_schedule(
+    pack_name: &[u8],
+    case_name: &[u8],
+    text: &[u8],
+    records: Records,
+    output: &[u8],
+    end: Answer,
+    room: &mut [u8],
+    n: usize,
+) -> Outcome
+    requires { ⌜ n ≤ length (now room) ⌝ }
+{
+    let count = records.count;
+    if records.malformed {
+        return Outcome::Malformed;
     }
-    compare_report(pack_name, case_name, &room[..written], output)
+    if count > RECORDS {
+        return Outcome::Malformed;
+    }
+    let entries = records.entries;
+    fill(room, MARKER);
+    let ended = run_schedule(text, entries, count, room, n);
+    let agrees = compare_run(pack_name, case_name, output, end, ended, room);
+    Outcome::Scheduled(agrees)
 }
 
 // Checks and runs one case of a pack.
@@ -402,16 +547,10 @@ fn run_case(
     pack_name: &[u8],
     header: &[u8],
     text: &[u8],
+    records: &[u8],
     output: &[u8],
     room: &mut [u8],
 ) -> Outcome {
-    let kind = word(header, b' ', 2);
-    if check::same(kind, b"schedule") {
-        return Outcome::NotRun;
-    }
-    if !check::same(kind, b"run") {
-        return Outcome::Malformed;
-    }
     let Room::Bytes(n) = room_of(word(header, b' ', 3), room.len()) else {
         return Outcome::Malformed;
     };
@@ -422,6 +561,14 @@ fn run_case(
         return Outcome::Malformed;
     };
     let case_name = word(header, b' ', 1);
+    let kind = word(header, b' ', 2);
+    if check::same(kind, b"schedule") {
+        let entries = read_records(records);
+        return try_schedule(pack_name, case_name, text, entries, output, end, room, n);
+    }
+    if !check::same(kind, b"run") {
+        return Outcome::Malformed;
+    }
     let checked = check_case(pack_name, case_name, text, end);
     let ran = try_case(pack_name, case_name, text, output, end, room, n);
     Outcome::Ran(Agreed {
@@ -443,6 +590,7 @@ fn run_at(pack_name: &[u8], pack: &[u8], at: usize, parts: Parts, room: &mut [u8
         pack_name,
         &pack[at..header],
         &pack[start..text],
+        &pack[text..records],
         &pack[records..output],
         room,
     )
@@ -459,17 +607,25 @@ fn print_malformed(name: &[u8]) {
     print_both(name, b": malformed\n");
 }
 
-// Writes how many cases of a pack were run, how many of them agree in their check and in their run, and how many were
-// not run.
-fn print_total(name: &[u8], checks: usize, runs: usize, run: usize, not_run: usize) {
+// Writes how many texts of a pack were run and how many of them agree in their check and in their run; and the same of
+// its schedules, where it has any.
+fn print_total(
+    name: &[u8],
+    checks: usize,
+    runs: usize,
+    run: usize,
+    schedules: usize,
+    scheduled: usize,
+) {
     print_both(name, b": ");
     print_counted(checks, b" of ");
     print_counted(run, b" checks agree, ");
     print_counted(runs, b" of ");
     print_counted(run, b" runs agree");
-    if not_run > 0 {
+    if scheduled > 0 {
         print(b", ");
-        print_counted(not_run, b" schedule cases not run");
+        print_counted(schedules, b" of ");
+        print_counted(scheduled, b" schedules agree");
     }
     print(b"\n");
 }
@@ -490,7 +646,8 @@ fn run_pack(name: &[u8], pack: &[u8], room: &mut [u8]) {
     let mut checks = 0;
     let mut runs = 0;
     let mut run = 0;
-    let mut not_run = 0;
+    let mut schedules = 0;
+    let mut scheduled = 0;
     let mut at = 0;
     while at < pack.len() {
         let Next::Case(parts) = next_case(pack, at) else {
@@ -503,8 +660,9 @@ fn run_pack(name: &[u8], pack: &[u8], room: &mut [u8]) {
                 runs = counted(runs, agreed.run);
                 run += 1;
             }
-            Outcome::NotRun => {
-                not_run += 1;
+            Outcome::Scheduled(agrees) => {
+                schedules = counted(schedules, agrees);
+                scheduled += 1;
             }
             Outcome::Malformed => {
                 print_malformed(name);
@@ -513,7 +671,7 @@ fn run_pack(name: &[u8], pack: &[u8], room: &mut [u8]) {
         }
         at = parts.output;
     }
-    print_total(name, checks, runs, run, not_run);
+    print_total(name, checks, runs, run, schedules, scheduled);
 }
 
 // Reads a pack into the bytes lent for it, and runs it. One that fills them all may go on past them: it is not run.

@@ -14,12 +14,14 @@ use Rattle.vectors.proofs.run_pack.Statement.{statement}
 use Rattle.vectors.proofs.run_pack.Tie as tie
 
 abbrev Inv-loop : tie.InvT-loop
-Inv-loop name pack room₀ checks₀ runs₀ run₀ not-run₀ at₀ room checks runs run not-run at =
+Inv-loop name pack room₀ checks₀ runs₀ run₀ schedules₀ scheduled₀ at₀ room checks runs run schedules scheduled at =
     (at ≤ length pack)
-    × ((checks ≤ run) × ((runs ≤ run) × ((run + not-run ≤ at) × (length room ≡ length room₀))))
+    × ((checks ≤ run) × ((runs ≤ run) × ((schedules ≤ scheduled)
+    × ((run + scheduled ≤ at) × (length room ≡ length room₀)))))
 
 abbrev μ-loop : tie.MeasureT-loop
-μ-loop name pack room₀ checks₀ runs₀ run₀ not-run₀ at₀ room checks runs run not-run at = length pack - at
+μ-loop name pack room₀ checks₀ runs₀ run₀ schedules₀ scheduled₀ at₀ room checks runs run schedules scheduled at =
+    length pack - at
 
 -- Of a case that was found, what is known of what was found.
 case-placed : (at size : ℕ) (r : Next) (p : Parts) → r ≡ Case p → Within at size r → Placed at size p
@@ -71,14 +73,17 @@ counted-requires-2 c κs = search needs
 add-run : tie.Need-add-run Inv-loop μ-loop
 add-run c = search needs
 
+enum-known-agrees : tie.Need-enum-known-agrees Inv-loop μ-loop
+enum-known-agrees c = search needs
+
+counted-requires-3 : tie.Need-counted-requires-3 Inv-loop μ-loop
+counted-requires-3 c κs = search needs
+
+add-scheduled : tie.Need-add-scheduled Inv-loop μ-loop
+add-scheduled c = search needs
+
 enum-told-2 : tie.Need-enum-told-2 Inv-loop μ-loop
 enum-told-2 c = search needs
-
-add-not-run : tie.Need-add-not-run Inv-loop μ-loop
-add-not-run c = search needs
-
-enum-told-3 : tie.Need-enum-told-3 Inv-loop μ-loop
-enum-told-3 c = search needs
 
 print-malformed-requires-2 : tie.Need-print-malformed-requires-2 Inv-loop μ-loop
 print-malformed-requires-2 c κs = search needs
@@ -97,15 +102,17 @@ loop-less c =
 loop-again : tie.Need-loop-again Inv-loop μ-loop
 loop-again c =
     let p = placed (c .before .before .before .before .before .before .before .before .before .before) in
-    (omega arith, (omega arith, (omega arith, (omega arith, search needs))))
+    (omega arith, (omega arith, (omega arith, (omega arith, (omega arith, search needs)))))
 
 loop-less-2 : tie.Need-loop-less-2 Inv-loop μ-loop
-loop-less-2 c = let p = placed (c .before .before .before .before .before .before .before) in omega arith
+loop-less-2 c =
+    let p = placed (c .before .before .before .before .before .before .before .before .before) in
+    omega arith
 
 loop-again-2 : tie.Need-loop-again-2 Inv-loop μ-loop
 loop-again-2 c =
-    let p = placed (c .before .before .before .before .before .before .before) in
-    (omega arith, (omega arith, (omega arith, (omega arith, search needs))))
+    let p = placed (c .before .before .before .before .before .before .before .before .before) in
+    (omega arith, (omega arith, (omega arith, (omega arith, (omega arith, search needs)))))
 
 print-total-requires : tie.Need-print-total-requires Inv-loop μ-loop
 print-total-requires c κs = search needs
@@ -134,9 +141,10 @@ run-pack-spec =
     counted-requires
     counted-requires-2
     add-run
+    enum-known-agrees
+    counted-requires-3
+    add-scheduled
     enum-told-2
-    add-not-run
-    enum-told-3
     print-malformed-requires-2
     same-length-2
     returns-2

@@ -1,0 +1,2 @@
+-- The five arrays of a run of records.
+pub mod Arrays

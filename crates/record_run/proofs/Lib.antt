@@ -1,0 +1,3 @@
+-- The laws of a plan's text with a schedule of records.
+pub mod Records
+pub mod Outcomes

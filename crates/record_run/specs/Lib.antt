@@ -1,0 +1,2 @@
+-- What a plan's text with a schedule of records promises.
+pub mod Records

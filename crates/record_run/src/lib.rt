@@ -1,0 +1,221 @@
+// A plan's text with a schedule of records: what comes before the records run, their run, and what comes after it.
+ghost use mathlib.Core.Path.{_≡_};
+ghost use mathlib.Core.List.{List};
+ghost use Prim.Native.Nat.{ℕ, _+_, _≤_};
+ghost use lib.ListN.{length};
+ghost use Rattle.format.specs.Plan.{Plan};
+ghost use Rattle.runs.specs.Runs.{endOf, runSchedule, left};
+ghost use Rattle.running.specs.Schedules.{Begun as Opens, refusalOf};
+ghost use Rattle.text_run.specs.Finishing.{WrittenOut, emptyStore};
+ghost use Rattle.reference.specs.Answers.{endedOf};
+ghost use Rattle.record_run.specs.Records.{toRun, BegunIs, Ready, Closing};
+use format::Entry;
+use format::Fault;
+use format::Form;
+use format::Sizes;
+use format::StoredPlan;
+use format::Verdict;
+use reference::Ended;
+use running::Halt;
+use runs::End;
+use schedule::Walk;
+use text_run::Finished;
+
+// The most records that a schedule has.
+const MOST: usize = 4000;
+
+// What a plan's text and the count of the records come to before any record runs: the verdict on the text, the plan,
+// how many records run, and the run at its opening.
+pub struct Begun {
+    pub verdict: Verdict,
+    pub plan: StoredPlan,
+    pub n: usize,
+    pub walk: Walk,
+}
+
+// How many records run: none, where there are too many.
+fn to_run(count: usize) -> usize
+    ensures { λ r. ⌜ r ≡ toRun count ⌝ }
+{
+    if count > MOST {
+        return 0;
+    }
+    count
+}
+
+// A run at its opening.
+fn walk_from(sizes: Sizes) -> Walk
+    requires { ⌜ (sizes .jobs ≤ 16) × (sizes .copies ≤ 8) ⌝ }
+    ensures { λ r. ⌜ (r .seen ≡ 0) × (r .other ≡ 0) ⌝ }
+    ensures { λ r. ⌜ ((plan : Plan) → plan .sizes ≡ sizes → plan .sizes .cards ≤ 8 → Opens plan (r .progress)) ⌝ }
+{
+    let progress = running::begin(sizes);
+    Walk {
+        progress,
+        seen: 0,
+        other: 0,
+    }
+}
+
+// The plan's text is checked, and where it is accepted the opening memory is put into the store.
+pub fn begin(text: &[u8], count: usize, store: &mut [u32]) -> Begun
+    requires { ⌜ now store ≡ emptyStore ⌝ }
+    ensures { λ r. ⌜ BegunIs (now (text .entry)) count r (now (store .exit)) ⌝ }
+{
+    let parsed = reader::read(text, Form::PlanAlone);
+    let verdict = parsed.verdict;
+    let plan = parsed.plan;
+    match verdict {
+        Verdict::Refused(fault, line) => {
+            let walk = walk_from(Sizes {
+                cards: 1,
+                jobs: 1,
+                blocks: 1,
+                words: 1,
+                copies: 1,
+            });
+            Begun {
+                verdict,
+                plan,
+                n: 0,
+                walk,
+            }
+        }
+        Verdict::Accepted(lines) => {
+            let sizes = plan.sizes;
+            text_run::open_store(plan, store);
+            let walk = walk_from(sizes);
+            let n = to_run(count);
+            Begun {
+                verdict,
+                plan,
+                n,
+                walk,
+            }
+        }
+    }
+}
+
+// The records of a plan's text run, in arrays that are lent; the plan's arrays are lent to the loop from here.
+pub fn run_begun<'e, 'b>(
+    records: &'e [Entry],
+    begun: Begun,
+    store: &'b mut [u32],
+    addr: &'b mut [[u8; 16]; 16],
+    old: &'b mut [[u8; 16]; 16],
+    new: &'b mut [[u8; 16]; 16],
+    commits: &'b mut [[u32; 3]; 4000],
+) -> Walk
+    requires { ⌜ ((text : List ℕ) × Ready text (length (now records)) begun (now store) (now addr) (now old) (now new)
+        (now commits)) ⌝ }
+    ensures { λ r. ⌜ ((text : List ℕ)
+        → Ready text (length (now (records .entry))) begun (now (store .entry)) (now (addr .entry)) (now (old .entry))
+        (now (new .entry)) (now (commits .entry))
+        → Closing text (now (records .entry)) (begun .verdict) (length (now (records .entry))) (begun .plan .sizes) r
+        (now (store .exit)) (now (commits .exit))) ⌝ }
+{
+    let plan = begun.plan;
+    let walk = begun.walk;
+    let sizes = plan.sizes;
+    let cards = plan.cards;
+    let priorities = plan.priorities;
+    let counts = plan.counts;
+    let kinds = plan.kinds;
+    let targets = plan.targets;
+    let sources = plan.sources;
+    let amounts = plan.amounts;
+    schedule::run_records(
+        records,
+        begun.n,
+        walk,
+        sizes,
+        plan.updates,
+        &cards,
+        &priorities,
+        &counts,
+        &kinds,
+        &targets,
+        &sources,
+        &amounts,
+        store,
+        addr,
+        old,
+        new,
+        commits,
+    )
+}
+
+// How a run of records ends: by the refusal of the record behind those accepted, or accepted with their count.
+fn end_of(halt: Halt, accepted: usize, count: usize) -> End
+    requires { ⌜ accepted ≤ 4000 ⌝ }
+    ensures { λ r. ⌜ r ≡ endOf (refusalOf halt) (accepted + 1) count ⌝ }
+{
+    match halt {
+        Halt::Going => End::Accepted(count),
+        Halt::Refused(r) => End::Refused(r, accepted + 1),
+    }
+}
+
+// The report is written, unless the text or the records are refused.
+fn report_of(
+    verdict: Verdict,
+    count: usize,
+    sizes: Sizes,
+    walk: Walk,
+    store: &[u32],
+    commits: &[[u32; 3]; 4000],
+    buffer: &mut [u8],
+) -> Finished
+    requires { ⌜ ((text : List ℕ) × (es : List Entry)
+        × Closing text es verdict count sizes walk (now store) (now commits)) ⌝ }
+    ensures { λ r. ⌜ ((text : List ℕ) (es : List Entry)
+        → Closing text es verdict count sizes walk (now (store .entry)) (now (commits .entry))
+        → WrittenOut (runSchedule text es) (now (buffer .entry)) r (now (buffer .exit))) ⌝ }
+{
+    if let Verdict::Refused(fault, line) = verdict {
+        return Finished {
+            end: End::Faulty(fault, line),
+            length: 0,
+        };
+    }
+    if count > MOST {
+        return Finished {
+            end: End::Faulty(Fault::TooMany, MOST + 1),
+            length: 0,
+        };
+    }
+    let other = walk.other;
+    if other > 0 {
+        return Finished {
+            end: End::Faulty(Fault::Misplaced, other),
+            length: 0,
+        };
+    }
+    let progress = walk.progress;
+    let halt = progress.halt;
+    let state = progress.state;
+    let end = end_of(halt, state.entries, count);
+    let ran = running::ran_of(progress, end);
+    text_run::finish(buffer, sizes, ran, store, commits)
+}
+
+// What is answered when the records have run.
+pub fn finish(
+    verdict: Verdict,
+    count: usize,
+    sizes: Sizes,
+    walk: Walk,
+    store: &[u32],
+    commits: &[[u32; 3]; 4000],
+    buffer: &mut [u8],
+) -> Ended
+    requires { ⌜ ((text : List ℕ) × (es : List Entry)
+        × Closing text es verdict count sizes walk (now store) (now commits)) ⌝ }
+    ensures { λ r. ⌜ ((text : List ℕ) (es : List Entry)
+        → Closing text es verdict count sizes walk (now (store .entry)) (now (commits .entry))
+        → (r ≡ endedOf (runSchedule text es) (now (buffer .entry)))
+        × (now (buffer .exit) ≡ left (runSchedule text es) (now (buffer .entry)))) ⌝ }
+{
+    let finished = report_of(verdict, count, sizes, walk, store, commits, buffer);
+    reference::ended_of(finished)
+}
