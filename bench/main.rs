@@ -1,15 +1,24 @@
-// Times the proved machine against the plain one of plain.rs, on a full plan with 4,000 accepted entries. From the
-// project's root:
+// Times the proved machine against the plain one of plain.rs, on a full plan with 4,000 accepted entries, as a text and
+// as records beside the plan's text. From the project's root:
 //
 // rt staticlib library && rustc -O bench/main.rs -L target/staticlib -l static=library -o target/bench && target/bench
 //
-// Both have to give the report in bench-full.report before anything is timed. A run is the whole way from the text to
-// the report. The text is then cut to its first 400 entries, to see that the time an entry does not grow with the
-// schedule, and to none, to see what the plan's lines and the report take.
+// Both have to give the report in bench-full.report before anything is timed; as records its last line counts those. A
+// run is the whole way from the text, or from the plan's text and the records, to the report. The schedule is then cut
+// to its first 400 entries, to see that the time an entry does not grow with the schedule, and to none, to see what the
+// plan's lines and the report take.
+//
+// The peak memory of the process is read before and after the library's first runs, which come before anything else
+// runs. Text, records and buffer are in memory by then, so that the growth is what the library itself takes: its stack,
+// and its code where that is loaded at its first use.
 
+// The benchmark does not use all of these.
+#[allow(dead_code)]
+mod library;
+#[allow(dead_code)]
 mod plain;
 
-use plain::Ended;
+use plain::{Ended, Record};
 use std::hint::black_box;
 use std::time::Instant;
 
@@ -21,76 +30,73 @@ const RUNS: usize = 300;
 /// The length of the lent buffers, enough for every report.
 const ROOM: usize = 80_000;
 
-/// A way to run a text into a lent buffer.
-type Run = fn(&[u8], &mut [u8]) -> Ended;
+/// A way to run a schedule into a lent buffer.
+type Run<'a> = &'a dyn Fn(&mut [u8]) -> Ended;
 
-/// The answer as the proved library hands it over.
-#[repr(C)]
-struct Returned {
-    number: usize,
-    line: usize,
-    length: usize,
+/// A plan and its schedule, as one text, and as the plan's text and records.
+struct Schedule {
+    text: Vec<u8>,
+    plan: Vec<u8>,
+    records: Vec<Record>,
 }
 
-extern "C" {
-    fn point_memory_run(text: *const u8, text_len: usize, buffer: *mut u8, buffer_len: usize) -> Returned;
+/// The record of a line, if it is an entry.
+fn record(line: &[u8]) -> Option<Record> {
+    let line = std::str::from_utf8(line).ok()?;
+    let mut fields = line.trim_end().split('\t');
+    let first = fields.next()?;
+    let kind = ["call", "step"].iter().position(|&kind| kind == first)? as u32;
+    let mut number = || fields.next().and_then(|field| field.parse().ok());
+    Some(Record { kind, first: number()?, second: number().unwrap_or(0) })
 }
 
-/// The proved machine's run.
-fn proved_run(text: &[u8], buffer: &mut [u8]) -> Ended {
-    // Each pointer and length is that of a slice which lives through the call.
-    let returned = unsafe { point_memory_run(text.as_ptr(), text.len(), buffer.as_mut_ptr(), buffer.len()) };
-    Ended { number: returned.number, line: returned.line, length: returned.length }
-}
-
-/// Whether a line is an entry.
-fn is_entry(line: &[u8]) -> bool {
-    line.starts_with(b"call\t") || line.starts_with(b"step\t")
-}
-
-/// The text's lines up to its first so many entries, and how many entries these are.
-fn cut(text: &[u8], most: usize) -> (Vec<u8>, usize) {
-    let mut kept = Vec::new();
-    let mut entries = 0;
+/// The schedule of a text, with its first so many entries.
+fn schedule(text: &[u8], most: usize) -> Schedule {
+    let mut schedule = Schedule { text: Vec::new(), plan: Vec::new(), records: Vec::new() };
     for line in text.split_inclusive(|&byte| byte == b'\n') {
-        if is_entry(line) {
-            if entries == most {
-                break;
-            }
-            entries += 1;
+        match record(line) {
+            Some(_) if schedule.records.len() == most => break,
+            Some(record) => schedule.records.push(record),
+            None => schedule.plan.extend_from_slice(line),
         }
-        kept.extend_from_slice(line);
+        schedule.text.extend_from_slice(line);
     }
-    (kept, entries)
+    schedule
 }
 
-/// The report of a run of an accepted text.
-fn report(run: Run, text: &[u8]) -> Vec<u8> {
+/// The peak memory of the process so far, in kilobytes: VmHWM of /proc/self/status.
+fn peak_memory() -> usize {
+    let status = std::fs::read_to_string("/proc/self/status").expect("/proc/self/status");
+    let line = status.lines().find_map(|line| line.strip_prefix("VmHWM:")).expect("VmHWM");
+    line.trim().trim_end_matches(" kB").parse().expect("a count of kilobytes")
+}
+
+/// The report of an accepted run.
+fn report(run: Run) -> Vec<u8> {
     let mut buffer = vec![0; ROOM];
-    let ended = run(text, &mut buffer);
+    let ended = run(&mut buffer);
     assert!(ended.number == 0, "refused: {} in line {}", ended.number, ended.line);
     buffer.truncate(ended.length);
     buffer
 }
 
 /// The nanoseconds a run takes, over one round.
-fn round(run: Run, text: &[u8], buffer: &mut [u8]) -> f64 {
+fn round(run: Run, buffer: &mut [u8]) -> f64 {
     buffer.fill(0);
     let start = Instant::now();
     for _ in 0..RUNS {
-        black_box(run(black_box(text), black_box(buffer)));
+        black_box(run(black_box(buffer)));
     }
     start.elapsed().as_nanos() as f64 / RUNS as f64
 }
 
 /// The least and the median nanoseconds a run, of the proved and of the plain machine, their rounds taken in turn.
-fn times(text: &[u8]) -> [[f64; 2]; 2] {
-    let runs: [Run; 2] = [proved_run, plain::run];
+fn times(runs: [Run; 2]) -> [[f64; 2]; 2] {
     let mut buffers = [vec![0; ROOM], vec![0; ROOM]];
     let mut taken = [Vec::new(), Vec::new()];
     for number in 0..WARM_UP + ROUNDS {
         for which in 0..2 {
-            let time = round(runs[which], text, &mut buffers[which]);
+            let time = round(runs[which], &mut buffers[which]);
             if number >= WARM_UP {
                 taken[which].push(time);
             }
@@ -102,27 +108,62 @@ fn times(text: &[u8]) -> [[f64; 2]; 2] {
     })
 }
 
-/// Times both on a text and prints their lines, each time divided by the given count.
-fn print(heading: &str, text: &[u8], parts: usize) {
-    assert!(report(proved_run, text) == report(plain::run, text), "the reports differ");
-    let [proved, plain] = times(text).map(|pair| pair.map(|time| time / parts as f64));
-    println!("{heading:32} {:>10} {:>10}", "least", "median");
-    println!("{:>32} {:>10.1} {:>10.1}", "proved", proved[0], proved[1]);
-    println!("{:>32} {:>10.1} {:>10.1}", "plain", plain[0], plain[1]);
-    println!("{:>32} {:>10.2} {:>10.2}", "proved / plain", proved[0] / plain[0], proved[1] / plain[1]);
+/// Times the proved run against the plain one and prints their lines, each time divided by the given count.
+fn print(heading: &str, proved: Run, plain: Run, parts: usize) {
+    assert!(report(proved) == report(plain), "the reports differ");
+    let [proved, plain] = times([proved, plain]).map(|pair| pair.map(|time| time / parts as f64));
+    println!("{heading:36} {:>10} {:>10}", "least", "median");
+    println!("{:>36} {:>10.1} {:>10.1}", "proved", proved[0], proved[1]);
+    println!("{:>36} {:>10.1} {:>10.1}", "plain", plain[0], plain[1]);
+    println!("{:>36} {:>10.2} {:>10.2}", "proved / plain", proved[0] / plain[0], proved[1] / plain[1]);
 }
 
-/// Compares the reports, then times the whole text, its first 400 entries, and its plan alone.
+/// Reads the memory about the library's first runs, compares the reports, then times the whole schedule, its first 400
+/// entries, and the plan alone.
 fn main() {
     let text = std::fs::read("bench/bench-full.txt").expect("bench/bench-full.txt, from the project's root");
     let expected = std::fs::read("bench/bench-full.report").expect("bench/bench-full.report");
-    assert!(report(proved_run, &text) == expected, "the proved machine's report differs from bench-full.report");
-    assert!(report(plain::run, &text) == expected, "the plain machine's report differs from bench-full.report");
-    println!("Both give bench-full.report. {} rounds of {} runs each.", ROUNDS, RUNS);
-    for most in [usize::MAX, 400] {
-        let (part, entries) = cut(&text, most);
-        print(&format!("{entries} entries, ns an entry"), &part, entries);
+    let expected = String::from_utf8(expected).expect("a report");
+    let expected_of_records = expected.replace("end\t0\t4105\n", "end\t0\t4000\n");
+    let whole = schedule(&text, usize::MAX);
+
+    // The buffer is written, so that its pages are in memory; the first reading loads what a reading needs.
+    let mut buffer = vec![1; ROOM];
+    peak_memory();
+    let before = peak_memory();
+    library::run(&whole.text, &mut buffer);
+    let after_text = peak_memory();
+    library::run_schedule(&whole.plan, &whole.records, &mut buffer);
+    let after_records = peak_memory();
+
+    for (run, expected) in [
+        (&(|buffer: &mut [u8]| library::run(&whole.text, buffer)) as Run, &expected),
+        (&|buffer| plain::run(&whole.text, buffer), &expected),
+        (&|buffer| library::run_schedule(&whole.plan, &whole.records, buffer), &expected_of_records),
+        (&|buffer| plain::run_schedule(&whole.plan, &whole.records, buffer), &expected_of_records),
+    ] {
+        assert!(report(run) == expected.as_bytes(), "a report differs from bench-full.report");
     }
-    let (part, _) = cut(&text, 0);
-    print("no entries, ns a run", &part, 1);
+    println!("Both give bench-full.report, as text and as records. {} rounds of {} runs each.", ROUNDS, RUNS);
+    for most in [usize::MAX, 400, 0] {
+        let Schedule { text, plan, records } = schedule(&text, most);
+        let (count, unit) = match records.len() {
+            0 => (1, "a run"),
+            count => (count, "an entry"),
+        };
+        print(
+            &format!("{} entries as text, ns {unit}", records.len()),
+            &|buffer| library::run(black_box(&text), buffer),
+            &|buffer| plain::run(black_box(&text), buffer),
+            count,
+        );
+        print(
+            &format!("{} entries as records, ns {unit}", records.len()),
+            &|buffer| library::run_schedule(black_box(&plan), black_box(&records), buffer),
+            &|buffer| plain::run_schedule(black_box(&plan), black_box(&records), buffer),
+            count,
+        );
+    }
+    println!("Peak memory of the process: {before} KB before the library's first run, {after_text} KB after it,");
+    println!("{after_records} KB after its first run of records, {} KB at the end.", peak_memory());
 }

@@ -1,6 +1,7 @@
 //! Document 01 in plain Rust: the text's check (numbers 1 to 10), the machine (the step list A1 to H42, refusals 11 to
-//! 14) and the report (refusal 15). It is an independent implementation, written from the document alone; the proved
-//! one is compared with it, in its reports and in its time. Nothing here is proved.
+//! 14), the report (refusal 15), and the run of a schedule of records beside a plan's text. It is an independent
+//! implementation, written from the document alone; the proved one is compared with it, in its answers and in its time.
+//! It also counts the late stores of a run. Nothing here is proved.
 
 /// The most cards, jobs, blocks, words of a block, and blocks that one update may write.
 const CARDS: usize = 8;
@@ -9,7 +10,19 @@ const BLOCKS: usize = 16;
 const WORDS: usize = 16;
 const WRITES: usize = 8;
 
+/// The most entries, in a text or as records.
+const ENTRIES: usize = 4_000;
+
+/// What a check answers: a number of the table and its line. These three structs are laid out as the C header has them.
+#[repr(C)]
+#[derive(Clone, Copy, Debug, PartialEq, Eq)]
+pub struct Answer {
+    pub number: usize,
+    pub line: usize,
+}
+
 /// What a run answers: a number of the table, its line, and the length of the report in the lent buffer.
+#[repr(C)]
 #[derive(Clone, Copy, Debug, PartialEq, Eq)]
 pub struct Ended {
     pub number: usize,
@@ -17,26 +30,97 @@ pub struct Ended {
     pub length: usize,
 }
 
+/// An entry record: kind 0 calls job `first` with update `second`; kind 1 steps card `first`, `second` unused.
+#[repr(C)]
+#[derive(Clone, Copy, Debug, PartialEq, Eq)]
+pub struct Record {
+    pub kind: u32,
+    pub first: u32,
+    pub second: u32,
+}
+
+/// The late stores of a run: conditional stores that were not done, by the condition that failed. Where both of an
+/// item's conditions fail, V counts.
+#[derive(Clone, Copy, Debug, Default, PartialEq, Eq)]
+pub struct Late {
+    pub a12: usize,        // V is not ver
+    pub h25_moved: usize,  // V is not ver
+    pub h25_status: usize, // Stat[hid] is not -1
+    pub h41_moved: usize,  // V is not ver
+    pub h41_bank: usize,   // the bank entry is not old
+    pub h42_moved: usize,  // V is not ver
+    pub h42_status: usize, // Stat[hid] is not wid
+}
+
+/// Checks a text.
+pub fn check(text: &[u8]) -> Answer {
+    answer(read(text, true))
+}
+
+/// Checks a plan's text, in which no entry can stand.
+pub fn check_plan(text: &[u8]) -> Answer {
+    answer(read(text, false))
+}
+
 /// Checks a text, runs its entries, and writes the report into the leading part of the buffer.
 pub fn run(text: &[u8], buffer: &mut [u8]) -> Ended {
-    let plan = match read(text) {
+    run_counting(text, buffer).0
+}
+
+/// Checks a plan's text and a schedule of records, runs the records, and writes the report as `run` does.
+pub fn run_schedule(text: &[u8], records: &[Record], buffer: &mut [u8]) -> Ended {
+    run_schedule_counting(text, records, buffer).0
+}
+
+/// As `run`, with the late stores.
+pub fn run_counting(text: &[u8], buffer: &mut [u8]) -> (Ended, Late) {
+    match read(text, true) {
+        Ok(plan) => run_entries(&plan, plan.lines - plan.entries.len(), &plan.entries, buffer),
+        Err((number, line)) => refused(number, line),
+    }
+}
+
+/// As `run_schedule`, with the late stores.
+pub fn run_schedule_counting(text: &[u8], records: &[Record], buffer: &mut [u8]) -> (Ended, Late) {
+    let plan = match read(text, false) {
         Ok(plan) => plan,
-        Err((number, line)) => return Ended { number, line, length: 0 },
+        Err((number, line)) => return refused(number, line),
     };
-    let mut machine = Machine::new(&plan);
-    let (mut number, mut line) = (0, plan.lines);
-    for (index, &entry) in plan.entries.iter().enumerate() {
-        if let Err(refusal) = machine.entry(&plan, entry, index + 1) {
-            (number, line) = (refusal, plan.lines - plan.entries.len() + index + 1);
+    if records.len() > ENTRIES { return refused(5, ENTRIES + 1); }
+    if let Some(index) = records.iter().position(|record| record.kind > 1) { return refused(3, index + 1); }
+    let entries: Vec<Entry> = records.iter().map(Entry::of).collect();
+    run_entries(&plan, 0, &entries, buffer)
+}
+
+/// What a check answers by what was read.
+fn answer(read: Result<Plan, (usize, usize)>) -> Answer {
+    match read {
+        Ok(plan) => Answer { number: 0, line: plan.lines },
+        Err((number, line)) => Answer { number, line },
+    }
+}
+
+/// A run refused before any entry runs: no report and no stores.
+fn refused(number: usize, line: usize) -> (Ended, Late) {
+    (Ended { number, line, length: 0 }, Late::default())
+}
+
+/// Runs entries up to the first refused one and writes the report. The first entry's line is one past `before`.
+fn run_entries(plan: &Plan, before: usize, entries: &[Entry], buffer: &mut [u8]) -> (Ended, Late) {
+    let mut machine = Machine::new(plan);
+    let (mut number, mut line) = (0, before + entries.len());
+    for (index, &entry) in entries.iter().enumerate() {
+        if let Err(refusal) = machine.entry(plan, entry, index + 1) {
+            (number, line) = (refusal, before + index + 1);
             break;
         }
     }
-    let report = machine.report(&plan, number, line);
-    match buffer.get_mut(..report.len()) {
-        Some(part) => part.copy_from_slice(&report),
-        None => return Ended { number: 15, line: 0, length: 0 },
-    }
-    Ended { number, line, length: report.len() }
+    let report = machine.report(plan, number, line);
+    let ended = match buffer.get_mut(..report.len()) {
+        Some(part) => { part.copy_from_slice(&report); Ended { number, line, length: report.len() } }
+        None => Ended { number: 15, line: 0, length: 0 },
+    };
+    (ended, machine.late)
 }
 
 /// A word of the memory: its block, and its place in the block.
@@ -49,11 +133,19 @@ struct Move { reads: bool, from: Word, to: Word, plus: u32 }
 
 /// An entry of the schedule.
 #[derive(Clone, Copy)]
-enum Entry { Call { job: usize, update: usize }, Step { card: usize } }
+pub enum Entry { Call { job: usize, update: usize }, Step { card: usize } }
+
+impl Entry {
+    /// The entry of a record of kind 0 or 1.
+    pub fn of(record: &Record) -> Entry {
+        let (first, second) = (record.first as usize, record.second as usize);
+        if record.kind == 0 { Entry::Call { job: first, update: second } } else { Entry::Step { card: first } }
+    }
+}
 
 /// A text as read: P, N, B, S and C, the lists that follow, and the count of all lines.
 #[derive(Default)]
-struct Plan {
+pub struct Plan {
     cards: usize, job_count: usize, blocks: usize, words: usize, writes: usize,
     jobs: Vec<(usize, usize)>, // cards and priorities
     memory: Vec<u32>,
@@ -66,8 +158,9 @@ struct Plan {
 #[derive(Clone, Copy, PartialEq, PartialOrd)]
 enum Stage { Plan, Jobs, Blocks, Updates, Moves, Entries }
 
-/// The plan so far, how far the text is read, and a bit for each block that the latest update writes.
-struct Reader { plan: Plan, stage: Stage, written: u32 }
+/// The plan so far, how far the text is read, a bit for each block that the latest update writes, and whether entries
+/// can stand in this text.
+struct Reader { plan: Plan, stage: Stage, written: u32, with_entries: bool }
 
 /// Refuses with the given number where the condition does not hold.
 fn demand(condition: bool, number: usize) -> Result<(), usize> {
@@ -91,10 +184,10 @@ fn numbers<'a, const K: usize>(mut fields: impl Iterator<Item = &'a [u8]>) -> Re
     Ok(found)
 }
 
-/// Reads a whole text: the plan, or the number of its first fault and the line.
-fn read(text: &[u8]) -> Result<Plan, (usize, usize)> {
+/// Reads a whole text, with or without entries: the plan, or the number of its first fault and the line.
+pub fn read(text: &[u8], with_entries: bool) -> Result<Plan, (usize, usize)> {
     if text.len() > 65_536 { return Err((1, 0)); }
-    let mut reader = Reader { plan: Plan::default(), stage: Stage::Plan, written: 0 };
+    let mut reader = Reader { plan: Plan::default(), stage: Stage::Plan, written: 0, with_entries };
     for line in text.split_inclusive(|&byte| byte == b'\n') {
         reader.plan.lines += 1;
         reader.line(line).map_err(|number| (number, reader.plan.lines))?;
@@ -121,9 +214,9 @@ impl Reader {
             (b"copy", Stage::Moves) => numbers(fields).and_then(|[d, a]| self.move_line(d, Some(a), 0)),
             (b"set", Stage::Moves) => numbers(fields).and_then(|[d, k]| self.move_line(d, None, k)),
             (b"add", Stage::Moves) => numbers(fields).and_then(|[d, a, k]| self.move_line(d, Some(a), k)),
-            (b"call", Stage::Updates | Stage::Moves | Stage::Entries) =>
+            (b"call", Stage::Updates | Stage::Moves | Stage::Entries) if self.with_entries =>
                 numbers(fields).and_then(|[job, update]| self.entry_line(Entry::Call { job, update })),
-            (b"step", Stage::Updates | Stage::Moves | Stage::Entries) =>
+            (b"step", Stage::Updates | Stage::Moves | Stage::Entries) if self.with_entries =>
                 numbers(fields).and_then(|[card]| self.entry_line(Entry::Step { card })),
             (b"plan" | b"job" | b"block" | b"update" | b"copy" | b"set" | b"add" | b"call" | b"step", _) => Err(3),
             _ => Err(2),
@@ -175,7 +268,7 @@ impl Reader {
 
     /// An entry; its numbers are judged when it runs.
     fn entry_line(&mut self, entry: Entry) -> Result<(), usize> {
-        demand(self.plan.entries.len() < 4_000, 5)?;
+        demand(self.plan.entries.len() < ENTRIES, 5)?;
         self.plan.entries.push(entry);
         self.stage = Stage::Entries;
         Ok(())
@@ -247,9 +340,9 @@ impl Job {
     }
 }
 
-/// The machine's state.
+/// The machine's state, with what the report needs of the run so far.
 #[derive(Default)]
-struct Machine {
+pub struct Machine {
     version: Version,
     ann: [usize; CARDS],
     stat: [Status; JOBS + 1], // that of N is always N
@@ -261,11 +354,12 @@ struct Machine {
     jobs: Vec<Job>,
     running: [usize; CARDS], // the active job of highest priority on each card, or N
     commits: Vec<[usize; 3]>, // the entry, the job, and the update of the job's call
+    late: Late,
 }
 
 impl Machine {
     /// The opening state.
-    fn new(plan: &Plan) -> Machine {
+    pub fn new(plan: &Plan) -> Machine {
         let none = plan.jobs.len();
         let first = none * plan.writes;
         let mut store = vec![0; first * plan.words];
@@ -281,8 +375,18 @@ impl Machine {
         }
     }
 
+    /// Whether a job is active.
+    pub fn is_active(&self, job: usize) -> bool {
+        self.jobs[job].active
+    }
+
+    /// Whether a step of the card finds an active job.
+    pub fn has_active(&self, card: usize) -> bool {
+        self.running[card] < self.jobs.len()
+    }
+
     /// Runs one entry, or refuses it with the state unchanged.
-    fn entry(&mut self, plan: &Plan, entry: Entry, place: usize) -> Result<(), usize> {
+    pub fn entry(&mut self, plan: &Plan, entry: Entry, place: usize) -> Result<(), usize> {
         match entry {
             Entry::Call { job: p, update } => {
                 demand(p < self.jobs.len() && update < plan.updates.len(), 11)?;
@@ -294,7 +398,7 @@ impl Machine {
             }
             Entry::Step { card } => {
                 demand(card < plan.cards, 13)?;
-                demand(self.running[card] < self.jobs.len(), 14)?;
+                demand(self.has_active(card), 14)?;
                 self.step(plan, card, place);
             }
         }
@@ -330,7 +434,7 @@ impl Machine {
             }
             A12 => {
                 let moved = Version { count: job.ver.count + 1, flag: job.new_flag };
-                if self.version == job.ver { self.version = moved; }
+                if self.version == job.ver { self.version = moved; } else { self.late.a12 += 1; }
                 A7
             }
             A14 => { self.ann[card] = p; if job.round == 0 { job.round = 1; A4 } else { A15 } }
@@ -382,7 +486,11 @@ impl Machine {
                 H25
             }
             H25 => {
-                if self.version == job.ver && self.stat[job.hid] == Pending {
+                if self.version != job.ver {
+                    self.late.h25_moved += 1;
+                } else if self.stat[job.hid] != Pending {
+                    self.late.h25_status += 1;
+                } else {
                     self.stat[job.hid] = Decided(p);
                     let listed = self.rows[p].listed[..job.listed].iter();
                     let replaced = listed.filter(|listed| job.marks[listed.address].copied);
@@ -401,13 +509,23 @@ impl Machine {
             H38 => { job.block = self.rows[job.wid].listed[job.index]; H41 }
             H41 => {
                 let Listed { address, old, new } = job.block;
-                if self.version == job.ver && self.bank[address] == old { self.bank[address] = new; }
+                if self.version != job.ver {
+                    self.late.h41_moved += 1;
+                } else if self.bank[address] != old {
+                    self.late.h41_bank += 1;
+                } else {
+                    self.bank[address] = new;
+                }
                 job.index += 1;
                 if job.index < job.count { H36 } else { H42 }
             }
             H42 => {
                 let hid = job.hid;
-                if self.version == job.ver && self.stat[hid] == Decided(job.wid) {
+                if self.version != job.ver {
+                    self.late.h42_moved += 1;
+                } else if self.stat[hid] != Decided(job.wid) {
+                    self.late.h42_status += 1;
+                } else {
                     self.stat[hid] = Nothing;
                     self.commits.push([entry, hid, self.jobs[hid].called]);
                 }

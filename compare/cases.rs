@@ -1,0 +1,469 @@
+//! The cases of the comparison: sound plans of all sizes with schedules in which cards are delayed, entries that are
+//! refused, damaged texts, and texts and schedules about the greatest length. All of it comes from one seed a case.
+
+use crate::plain::{self, Entry, Machine, Plan, Record};
+
+/// A case: a text to be run, or a plan's text beside which records are to be run.
+pub struct Case {
+    pub text: Vec<u8>,
+    pub records: Option<Vec<Record>>,
+}
+
+/// Pseudo-random numbers (splitmix64).
+pub struct Random(u64);
+
+impl Random {
+    /// The numbers of a seed.
+    pub fn new(seed: u64) -> Random {
+        Random(Random(seed).next())
+    }
+
+    /// The next number, of 64 bits.
+    pub fn next(&mut self) -> u64 {
+        self.0 = self.0.wrapping_add(0x9e37_79b9_7f4a_7c15);
+        let mixed = (self.0 ^ (self.0 >> 30)).wrapping_mul(0xbf58_476d_1ce4_e5b9);
+        let mixed = (mixed ^ (mixed >> 27)).wrapping_mul(0x94d0_49bb_1331_11eb);
+        mixed ^ (mixed >> 31)
+    }
+
+    /// A number below a bound, which is not 0.
+    pub fn below(&mut self, bound: usize) -> usize {
+        ((self.next() >> 32) as usize * bound) >> 32
+    }
+
+    /// A number from the least to the most.
+    pub fn between(&mut self, least: usize, most: usize) -> usize {
+        least + self.below(most - least + 1)
+    }
+
+    /// True one time in so many.
+    pub fn one_in(&mut self, many: usize) -> bool {
+        self.below(many) == 0
+    }
+
+    /// One of the choices.
+    pub fn of<T: Copy>(&mut self, choices: &[T]) -> T {
+        choices[self.below(choices.len())]
+    }
+}
+
+/// The sizes of a plan, the count of its updates, and the most moves of an update.
+struct Sizes {
+    cards: usize,
+    jobs: usize,
+    blocks: usize,
+    words: usize,
+    writes: usize,
+    updates: usize,
+    moves: usize,
+}
+
+impl Sizes {
+    /// Small, crowded (many jobs on few cards, few blocks and short updates), full, or any.
+    fn new(random: &mut Random) -> Sizes {
+        let (least, most) = match random.below(8) {
+            0 => ([1, 1, 1, 1, 1, 0, 0], [2, 2, 2, 2, 2, 2, 2]),
+            1..=3 => ([2, 2, 1, 1, 1, 1, 0], [4, 16, 4, 3, 4, 4, 4]),
+            4 => ([8, 16, 16, 16, 8, 32, 16], [8, 16, 16, 16, 8, 32, 16]),
+            _ => ([1, 1, 1, 1, 1, 0, 0], [8, 16, 16, 16, 8, 32, 16]),
+        };
+        let mut size = |place: usize| random.between(least[place], most[place]);
+        Sizes {
+            cards: size(0),
+            jobs: size(1),
+            blocks: size(2),
+            words: size(3),
+            writes: size(4),
+            updates: size(5),
+            moves: size(6),
+        }
+    }
+}
+
+/// A word's value: often about 0 or about the greatest.
+fn value(random: &mut Random) -> u32 {
+    match random.below(4) {
+        0 => random.below(4) as u32,
+        1 => u32::MAX - random.below(3) as u32,
+        _ => random.next() as u32,
+    }
+}
+
+/// A line of a kind and its numbers.
+fn line(kind: &str, numbers: &[u32]) -> String {
+    numbers.iter().fold(kind.to_string(), |line, number| format!("{line}\t{number}"))
+}
+
+/// A move that writes a word.
+fn move_line(random: &mut Random, sizes: &Sizes, word: usize) -> String {
+    let from = random.below(sizes.blocks * sizes.words) as u32;
+    match random.below(3) {
+        0 => line("copy", &[word as u32, from]),
+        1 => line("set", &[word as u32, value(random)]),
+        _ => line("add", &[word as u32, from, value(random)]),
+    }
+}
+
+/// The lines of a sound plan.
+fn plan_lines(random: &mut Random, sizes: &Sizes) -> Vec<String> {
+    let head = [sizes.cards, sizes.jobs, sizes.blocks, sizes.words, sizes.writes];
+    let mut lines = vec![line("plan", &head.map(|size| size as u32))];
+    let priorities = random.of(&[16, 256]);
+    while lines.len() <= sizes.jobs {
+        let job = line("job", &[random.below(sizes.cards) as u32, random.below(priorities) as u32]);
+        if !lines.contains(&job) {
+            lines.push(job);
+        }
+    }
+    for _ in 0..sizes.blocks {
+        let words: Vec<u32> = (0..sizes.words).map(|_| value(random)).collect();
+        lines.push(line("block", &words));
+    }
+    for _ in 0..sizes.updates {
+        lines.push(line("update", &[]));
+        let mut written = Vec::new();
+        for _ in 0..random.between(0, sizes.moves) {
+            let mut word = random.below(sizes.blocks * sizes.words);
+            while written.len() == sizes.writes && !written.contains(&(word / sizes.words)) {
+                word = random.below(sizes.blocks * sizes.words);
+            }
+            if !written.contains(&(word / sizes.words)) {
+                written.push(word / sizes.words);
+            }
+            lines.push(move_line(random, sizes, word));
+        }
+    }
+    lines
+}
+
+/// The text of the lines.
+fn text_of(lines: &[String]) -> Vec<u8> {
+    let mut text = Vec::with_capacity(16 * lines.len());
+    for line in lines {
+        text.extend_from_slice(line.as_bytes());
+        text.push(b'\n');
+    }
+    text
+}
+
+/// A call as a record.
+fn call(job: usize, update: usize) -> Record {
+    Record { kind: 0, first: job as u32, second: update as u32 }
+}
+
+/// A step as a record; its second number is any.
+fn step(random: &mut Random, card: usize) -> Record {
+    Record { kind: 1, first: card as u32, second: random.next() as u32 }
+}
+
+/// An entry record as a line.
+fn entry_line(record: &Record) -> String {
+    match record.kind {
+        0 => line("call", &[record.first, record.second]),
+        _ => line("step", &[record.first]),
+    }
+}
+
+/// A number that is not below a bound.
+fn beyond(random: &mut Random, bound: usize) -> usize {
+    random.of(&[bound, bound, bound + 1, bound + 15, bound + 255, bound + 65_535, 1 << 31, u32::MAX as usize])
+}
+
+/// Makes a schedule entry by entry, with a machine beside it that knows who is active.
+struct Scheduler<'a> {
+    sizes: &'a Sizes,
+    plan: &'a Plan,
+    machine: Machine,
+    delayed: [usize; 8], // for how many more entries each card is not stepped
+    latest: usize,       // the card stepped last
+    calls: usize,        // one entry in so many is a call, where a job is idle
+    turns: usize,        // one step in so many is of another card
+    delays: usize,       // one entry in so many delays a card
+    longest: usize,      // for so many entries at most
+}
+
+impl<'a> Scheduler<'a> {
+    /// The opening state, with a pace of its own.
+    fn new(random: &mut Random, sizes: &'a Sizes, plan: &'a Plan) -> Scheduler<'a> {
+        Scheduler {
+            sizes,
+            plan,
+            machine: Machine::new(plan),
+            delayed: [0; 8],
+            latest: 0,
+            calls: random.of(&[2, 8, 30]),
+            turns: random.of(&[1, 3, 20]),
+            delays: random.of(&[10, 30, 100]),
+            longest: random.of(&[10, 80, 300]),
+        }
+    }
+
+    /// One of the jobs that are active, or that are idle, if there is one.
+    fn job(&self, random: &mut Random, active: bool) -> Option<usize> {
+        let first = random.below(self.sizes.jobs);
+        let mut jobs = (0..self.sizes.jobs).map(|after| (first + after) % self.sizes.jobs);
+        jobs.find(|&job| self.machine.is_active(job) == active)
+    }
+
+    /// One of the cards with an active job, or with none, if there is one; delayed cards only where they may be.
+    fn card(&self, random: &mut Random, active: bool, may_be_delayed: bool) -> Option<usize> {
+        let first = random.below(self.sizes.cards);
+        let mut cards = (0..self.sizes.cards).map(|after| (first + after) % self.sizes.cards);
+        cards.find(|&card| self.machine.has_active(card) == active && (may_be_delayed || self.delayed[card] == 0))
+    }
+
+    /// An entry that is refused with a number from 11 to 14 now, if there is one.
+    fn refused(&self, random: &mut Random, number: usize) -> Option<Record> {
+        match number {
+            11 if random.one_in(2) => Some(call(beyond(random, self.sizes.jobs), random.below(32))),
+            11 => Some(call(random.below(self.sizes.jobs), beyond(random, self.sizes.updates))),
+            12 => self.job(random, true).map(|job| call(job, random.below(self.sizes.updates))),
+            13 => {
+                let card = beyond(random, self.sizes.cards);
+                Some(step(random, card))
+            }
+            _ => self.card(random, false, true).map(|card| step(random, card)),
+        }
+    }
+
+    /// An entry that is accepted, if there is one: a call, or the step of a card that is not delayed if it can be.
+    fn accepted(&mut self, random: &mut Random) -> Option<Record> {
+        for rest in &mut self.delayed {
+            *rest = rest.saturating_sub(1);
+        }
+        if random.one_in(self.delays) {
+            self.delayed[random.below(self.sizes.cards)] = random.between(1, self.longest);
+        }
+        let stepped = match self.machine.has_active(self.latest) && self.delayed[self.latest] == 0 {
+            true if !random.one_in(self.turns) => Some(self.latest),
+            _ => self.card(random, true, false).or_else(|| self.card(random, true, true)),
+        };
+        let called = if self.sizes.updates > 0 && (stepped.is_none() || random.one_in(self.calls)) {
+            self.job(random, false)
+        } else {
+            None
+        };
+        match (called, stepped) {
+            (Some(job), _) => Some(call(job, random.below(self.sizes.updates))),
+            (None, Some(card)) => {
+                self.latest = card;
+                Some(step(random, card))
+            }
+            (None, None) => None,
+        }
+    }
+
+    /// So many entries, or fewer where none is accepted. In one schedule of three a refused entry stands at some place.
+    fn schedule(&mut self, random: &mut Random, count: usize) -> Vec<Record> {
+        let mut records = Vec::with_capacity(count);
+        let mut refusal = if random.one_in(3) { Some(random.between(11, 14)) } else { None };
+        let from = random.between(0, count);
+        while records.len() < count {
+            if records.len() >= from {
+                if let Some(record) = refusal.and_then(|number| self.refused(random, number)) {
+                    refusal = None;
+                    records.push(record);
+                    continue;
+                }
+            }
+            let Some(record) = self.accepted(random) else { break };
+            records.push(record);
+            let taken = self.machine.entry(self.plan, Entry::of(&record), records.len());
+            assert!(taken.is_ok(), "an entry made to be accepted is refused");
+        }
+        records
+    }
+}
+
+/// How many entries a schedule has: mostly some hundreds, at times 4,000 exactly, or over.
+fn entry_count(random: &mut Random) -> usize {
+    match random.below(64) {
+        0..=3 => random.below(4),
+        4..=35 => random.below(200),
+        36..=55 => random.between(200, 999),
+        56..=59 => random.between(1_000, 3_999),
+        60 | 61 => 4_000,
+        62 => 4_001,
+        _ => random.between(4_001, 4_300),
+    }
+}
+
+/// Fields that are awkward as numbers.
+const FIELDS: [&str; 28] = [
+    "", "0", "1", "2", "7", "8", "9", "15", "16", "17", "32", "255", "256", "257", "4294967295", "4294967296",
+    "42949672950", "18446744073709551616", "00", "01", "-1", "+1", " 1", "1 ", "1\r", "1\0", "x", "1x",
+];
+
+/// The kinds, and fields that are none.
+const KINDS: [&str; 22] = [
+    "plan", "job", "block", "update", "copy", "set", "add", "call", "step", "plan", "job", "block", "update", "", " ",
+    "Plan", "plans", "ste", "call ", "update\r", "tidy", "group",
+];
+
+/// Puts a field at a place of a line, 0 being its kind.
+fn put_field(line: &mut String, place: usize, field: &str) {
+    let mut fields: Vec<&str> = line.split('\t').collect();
+    if place < fields.len() {
+        fields[place] = field;
+        *line = fields.join("\t");
+    }
+}
+
+/// Puts an awkward field in place of one of a line's numbers, or adds it.
+fn spoil_field(random: &mut Random, line: &mut String) {
+    let field = random.of(&FIELDS);
+    match line.matches('\t').count() {
+        0 => *line += &format!("\t{field}"),
+        _ if random.one_in(3) => *line += &format!("\t{field}"),
+        numbers => put_field(line, random.between(1, numbers), field),
+    }
+}
+
+/// Does one damage to the lines. The first `plan` of them are, or were, the plan's.
+fn damage_lines(random: &mut Random, sizes: &Sizes, lines: &mut Vec<String>, plan: usize) {
+    if lines.is_empty() {
+        return;
+    }
+    let plan = plan.min(lines.len());
+    // The 4,001st entry or the last line, any line, or one of the plan's.
+    let at = match random.below(8) {
+        0 => (plan + 4_000).min(lines.len() - 1),
+        1..=3 => random.below(lines.len()),
+        _ => random.below(plan.max(1)),
+    };
+    let job = random.between(1, sizes.jobs).min(lines.len() - 1);
+    let memory = sizes.blocks * sizes.words;
+    match random.below(18) {
+        0 => drop(lines.remove(at)),
+        1 => lines.insert(at, lines[at].clone()),
+        2 => {
+            let other = random.below(lines.len());
+            lines.swap(at, other);
+        }
+        3..=5 => spoil_field(random, &mut lines[at]),
+        6 => {
+            let end = lines[at].rfind('\t').unwrap_or(0);
+            lines[at].truncate(end);
+        }
+        7 => put_field(&mut lines[at], 0, random.of(&KINDS)),
+        8 => {
+            let mut inserted = random.of(&KINDS).to_string();
+            for _ in 0..random.below(5) {
+                inserted += &format!("\t{}", random.of(&FIELDS));
+            }
+            lines.insert(at, inserted);
+        }
+        // A size out of its range.
+        9 => put_field(&mut lines[0], random.between(1, 5), random.of(&["0", "9", "17", "4294967295"])),
+        // A job's card or priority out of its range, or a job like an earlier one.
+        10 if random.one_in(2) => put_field(&mut lines[job], 1, &sizes.cards.to_string()),
+        10 => put_field(&mut lines[job], 2, random.of(&["256", "65536", "4294967295"])),
+        11 => lines[job] = lines[random.between(1, sizes.jobs).min(job)].clone(),
+        // A move's word out of its range.
+        12 | 13 => {
+            let word = beyond(random, memory);
+            let moves: Vec<usize> = (0..plan).filter(|&place| is_move(&lines[place])).collect();
+            if !moves.is_empty() {
+                put_field(&mut lines[random.of(&moves)], random.between(1, 2), &word.to_string());
+            }
+        }
+        // More moves, of one word or of any, the last one of them with a fault of its own at times.
+        14 | 15 => {
+            let one_word = if random.one_in(2) { Some(random.below(memory)) } else { None };
+            let mut added: Vec<String> = Vec::new();
+            for _ in 0..random.of(&[1, 4, 16, 17]) {
+                let word = one_word.unwrap_or_else(|| random.below(memory));
+                added.push(move_line(random, sizes, word));
+            }
+            insert_all(random, lines, plan, added);
+        }
+        // Updates up to 32, or over, likewise.
+        16 => {
+            let added = vec!["update".to_string(); random.between(32, 34) - sizes.updates];
+            insert_all(random, lines, plan, added);
+        }
+        _ => lines.truncate(at),
+    }
+}
+
+/// Inserts lines at a place; at times the last one is spoiled.
+fn insert_all(random: &mut Random, lines: &mut Vec<String>, place: usize, mut added: Vec<String>) {
+    if let Some(last) = added.last_mut().filter(|_| random.one_in(4)) {
+        spoil_field(random, last);
+    }
+    lines.splice(place..place, added);
+}
+
+/// Whether a line is a move.
+fn is_move(line: &str) -> bool {
+    ["copy\t", "set\t", "add\t"].iter().any(|kind| line.starts_with(kind))
+}
+
+/// Does one damage to the bytes of a text.
+fn damage_bytes(random: &mut Random, text: &mut Vec<u8>) {
+    if text.is_empty() {
+        return;
+    }
+    let part = if random.one_in(2) { text.len() } else { text.len().min(400) };
+    let at = random.below(part);
+    let any = random.next() as u8;
+    let byte = random.of(&[b'\t', b'\n', b'0', b'1', b'9', b' ', b'\r', b'-', 0, 255, any]);
+    match random.below(6) {
+        0 | 1 => text[at] = byte,
+        2 => drop(text.remove(at)),
+        3 => text.insert(at, byte),
+        4 => text.truncate(at),
+        _ => drop(text.pop()),
+    }
+}
+
+/// Adds entry lines until the text has about 65,536 bytes, mostly exactly as many or one more or less.
+fn lengthen(random: &mut Random, text: &mut Vec<u8>) {
+    let any = random.between(60_000, 70_000);
+    let length = random.of(&[65_535, 65_536, 65_536, 65_537, any]);
+    while text.len() + 40 < length {
+        text.extend_from_slice(b"call\t4294967295\t4294967295\n");
+    }
+    // A last step's line has 7 to 16 bytes.
+    while text.len() + 7 <= length {
+        let rest = length - text.len();
+        let taken = if rest <= 16 { rest } else { (rest - 7).min(16) };
+        text.extend_from_slice(format!("step\t{}\n", "1".repeat(taken - 6)).as_bytes());
+    }
+}
+
+/// A case.
+pub fn case(random: &mut Random) -> Case {
+    let sizes = Sizes::new(random);
+    let mut lines = plan_lines(random, &sizes);
+    let Ok(plan) = plain::read(&text_of(&lines), false) else { panic!("a plan made to be sound is refused") };
+    let count = entry_count(random);
+    let mut records = Scheduler::new(random, &sizes, &plan).schedule(random, count);
+    let as_records = random.one_in(2);
+    let plan_length = lines.len();
+    if !as_records || random.one_in(40) {
+        lines.extend(records.iter().map(entry_line));
+    }
+    let damages = if random.one_in(3) { random.of(&[1, 1, 1, 2, 3]) } else { 0 };
+    for _ in 0..damages {
+        if !random.one_in(4) {
+            damage_lines(random, &sizes, &mut lines, plan_length);
+        }
+    }
+    let mut text = text_of(&lines);
+    if random.one_in(40) {
+        lengthen(random, &mut text);
+    }
+    for _ in 0..damages {
+        if random.one_in(4) {
+            damage_bytes(random, &mut text);
+        }
+    }
+    if as_records && random.one_in(12) && !records.is_empty() {
+        for _ in 0..random.between(1, 2) {
+            let at = random.below(records.len());
+            records[at].kind = random.of(&[2, 3, 255, 256, 1 << 31, u32::MAX]);
+        }
+    }
+    Case { text, records: if as_records { Some(records) } else { None } }
+}

@@ -1,0 +1,235 @@
+// Compares the proved library with the plain implementation of bench/plain.rs on random and damaged texts and schedules
+// (cases.rs), the same ones in every run. From the project's root:
+//
+// rt staticlib library
+// rustc -O compare/main.rs -L target/staticlib -l static=library -o target/compare && target/compare
+//
+// A case is a text, or a plan's text and records, with a lent buffer of some room. Both checks are asked of the text,
+// and it is run; the answers have to be the same, and so has every byte of the buffer and beside it. The cases are
+// shared by two threads, whose stacks are as long as include/point_memory.h asks for. Printed are the counts of cases
+// and differences, and how often each number and each late store was met. The status is 1 where something differs or
+// was hardly met. The first case that differs is then in target/difference.txt, and `target/compare NUMBER` runs it
+// alone.
+
+mod cases;
+#[path = "../bench/library.rs"]
+mod library;
+#[path = "../bench/plain.rs"]
+mod plain;
+
+use cases::{Case, Random};
+use plain::{Answer, Ended, Late};
+use std::thread;
+
+/// The cases, and the threads that share them.
+const CASES: u64 = 200_000;
+const THREADS: u64 = 2;
+
+/// The stack of each thread.
+const STACK: usize = 512 * 1024;
+
+/// In how many cases each number and each late store has to be met.
+const OFTEN: usize = 100;
+
+/// The length of a buffer that is enough for every report, and the bytes kept on both sides of a lent one.
+const ROOM: usize = 80_000;
+const MARGIN: usize = 16;
+
+/// What stands in memory behind a text: it would count if the text were read past its end.
+const BEHIND: &[u8] = b"1\nstep\t0\n";
+
+/// The late stores, in the order of `late_counts`.
+const LATE: [&str; 7] = [
+    "A12, V is not ver",
+    "H25, V is not ver",
+    "H25, Stat[hid] is not -1",
+    "H41, V is not ver",
+    "H41, the bank entry is not old",
+    "H42, V is not ver",
+    "H42, Stat[hid] is not wid",
+];
+
+/// The counts of a run's late stores.
+fn late_counts(late: Late) -> [usize; 7] {
+    let Late { a12, h25_moved, h25_status, h41_moved, h41_bank, h42_moved, h42_status } = late;
+    [a12, h25_moved, h25_status, h41_moved, h41_bank, h42_moved, h42_status]
+}
+
+/// What was met so far. The numbers are counted by function: check, check_plan, run, run_schedule.
+#[derive(Default)]
+struct Tally {
+    texts: usize,
+    schedules: usize,
+    numbers: [[usize; 16]; 4],
+    late: [usize; 7],
+    late_cases: [usize; 7],
+    differences: usize,
+    first: Option<(u64, String)>, // the first case that differs, and how
+}
+
+impl Tally {
+    /// Adds another thread's tally.
+    fn add(&mut self, other: Tally) {
+        self.texts += other.texts;
+        self.schedules += other.schedules;
+        for (numbers, others) in self.numbers.iter_mut().zip(&other.numbers) {
+            add_all(numbers, others);
+        }
+        add_all(&mut self.late, &other.late);
+        add_all(&mut self.late_cases, &other.late_cases);
+        self.differences += other.differences;
+        self.first = self.first.take().into_iter().chain(other.first).min_by_key(|first| first.0);
+    }
+
+    /// Whether each number and each late store was met often.
+    fn is_enough(&self) -> bool {
+        let [check, check_plan, run, schedule] = &self.numbers;
+        let checks = check[..11].iter().chain(&check_plan[..11]);
+        checks.chain(run).chain(schedule).chain(&self.late_cases).all(|&met| met >= OFTEN)
+    }
+
+    /// Prints everything.
+    fn print(&self) {
+        let cases = self.texts + self.schedules;
+        println!("{cases} cases: {} texts, {} schedules of records", self.texts, self.schedules);
+        println!("{} differences", self.differences);
+        println!();
+        println!("{:10} {:>12} {:>12} {:>12} {:>12}", "number", "check", "check_plan", "run", "run_schedule");
+        for number in 0..16 {
+            let [check, check_plan, run, schedule] = [0, 1, 2, 3].map(|function| self.numbers[function][number]);
+            println!("{number:<10} {check:>12} {check_plan:>12} {run:>12} {schedule:>12}");
+        }
+        println!();
+        println!("{:36} {:>12} {:>12}", "late store", "times", "in cases");
+        for (place, name) in LATE.iter().enumerate() {
+            println!("{name:36} {:>12} {:>12}", self.late[place], self.late_cases[place]);
+        }
+    }
+}
+
+/// Adds other counts to the counts.
+fn add_all(counts: &mut [usize], others: &[usize]) {
+    for (count, other) in counts.iter_mut().zip(others) {
+        *count += other;
+    }
+}
+
+/// The room to lend for a report of a length: none, too little, exactly as much, or more.
+fn room(random: &mut Random, length: usize) -> usize {
+    match random.below(16) {
+        0 => 0,
+        1 | 2 => length,
+        3 | 4 => length.saturating_sub(1),
+        5 => random.between(0, length),
+        6 => ROOM,
+        _ => length + random.between(1, 400),
+    }
+}
+
+/// What comes out of a case: the answers of both checks and of the run, and the buffer with its margins.
+#[derive(PartialEq)]
+struct Outcome {
+    checks: [Answer; 2],
+    ended: Ended,
+    buffer: Vec<u8>,
+}
+
+/// The plain implementation's outcome, and its late stores.
+fn plain_outcome(case: &Case, text: &[u8], mut buffer: Vec<u8>) -> (Outcome, Late) {
+    let checks = [plain::check(text), plain::check_plan(text)];
+    let end = buffer.len() - MARGIN;
+    let (ended, late) = match &case.records {
+        None => plain::run_counting(text, &mut buffer[MARGIN..end]),
+        Some(records) => plain::run_schedule_counting(text, records, &mut buffer[MARGIN..end]),
+    };
+    (Outcome { checks, ended, buffer }, late)
+}
+
+/// The library's outcome.
+fn library_outcome(case: &Case, text: &[u8], mut buffer: Vec<u8>) -> Outcome {
+    let checks = [library::check(text), library::check_plan(text)];
+    let end = buffer.len() - MARGIN;
+    let ended = match &case.records {
+        None => library::run(text, &mut buffer[MARGIN..end]),
+        Some(records) => library::run_schedule(text, records, &mut buffer[MARGIN..end]),
+    };
+    Outcome { checks, ended, buffer }
+}
+
+/// A case that differs, in full.
+fn difference(number: u64, case: &Case, plain: &Outcome, library: &Outcome) -> String {
+    let mut told = format!("case {number}, room {}\n", plain.buffer.len() - 2 * MARGIN);
+    for (name, outcome) in [("plain", plain), ("library", library)].iter() {
+        let buffer = String::from_utf8_lossy(&outcome.buffer);
+        told += &format!("\n{name}: {:?} {:?}, buffer with margins:\n{buffer}\n", outcome.checks, outcome.ended);
+    }
+    told + &format!("\nrecords: {:?}\n\ntext:\n{}", case.records, String::from_utf8_lossy(&case.text))
+}
+
+/// Compares one case. The ample buffer serves to find the report's length, so that the room can be chosen by it.
+fn compare(number: u64, ample: &mut [u8], tally: &mut Tally) {
+    let mut random = Random::new(number);
+    let case = cases::case(&mut random);
+    let held = [&case.text[..], BEHIND].concat();
+    let text = &held[..case.text.len()];
+    let (function, ended) = match &case.records {
+        None => (2, plain::run(text, ample)),
+        Some(records) => (3, plain::run_schedule(text, records, ample)),
+    };
+    let room = room(&mut random, ended.length);
+    let mut buffer = vec![0; room + 2 * MARGIN];
+    for bytes in buffer.chunks_mut(8) {
+        bytes.copy_from_slice(&random.next().to_le_bytes()[..bytes.len()]);
+    }
+
+    let (plain, late) = plain_outcome(&case, text, buffer.clone());
+    let library = library_outcome(&case, text, buffer);
+    if plain != library {
+        tally.differences += 1;
+        tally.first.get_or_insert_with(|| (number, difference(number, &case, &plain, &library)));
+    }
+
+    tally.texts += usize::from(case.records.is_none());
+    tally.schedules += usize::from(case.records.is_some());
+    tally.numbers[0][plain.checks[0].number] += 1;
+    tally.numbers[1][plain.checks[1].number] += 1;
+    tally.numbers[function][plain.ended.number] += 1;
+    let late = late_counts(late);
+    add_all(&mut tally.late, &late);
+    add_all(&mut tally.late_cases, &late.map(|times| times.min(1)));
+}
+
+/// Compares the cases from the first to before the end that fall to one thread.
+fn compare_some(first: u64, end: u64) -> Tally {
+    let mut ample = vec![0; ROOM];
+    let mut tally = Tally::default();
+    for number in (first..end).step_by(THREADS as usize) {
+        compare(number, &mut ample, &mut tally);
+    }
+    tally
+}
+
+/// Compares all cases, or one by its number.
+fn main() {
+    let alone: Option<u64> = std::env::args().nth(1).map(|number| number.parse().expect("a case's number"));
+    let (first, end) = alone.map_or((0, CASES), |number| (number, number + 1));
+    let mut threads = Vec::new();
+    for thread in 0..THREADS {
+        let builder = thread::Builder::new().stack_size(STACK);
+        threads.push(builder.spawn(move || compare_some(first + thread, end)).expect("a thread"));
+    }
+    let mut tally = Tally::default();
+    for thread in threads {
+        tally.add(thread.join().expect("a thread's tally"));
+    }
+    tally.print();
+    let enough = alone.is_some() || tally.is_enough();
+    if !enough {
+        println!("\nA number or a late store was met in fewer than {OFTEN} cases.");
+    }
+    if let Some((number, how)) = &tally.first {
+        println!("\nCase {number} differs: see target/difference.txt.");
+        std::fs::write("target/difference.txt", how).expect("target/difference.txt, from the project's root");
+    }
+    std::process::exit(if tally.differences == 0 && enough { 0 } else { 1 });
+}

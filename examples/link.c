@@ -1,0 +1,51 @@
+/*
+ * Links the library from C: runs a text, then the same schedule as records beside the plan's text, and prints both
+ * reports. The status is 0 only if they are what document 01 says. From the project's root:
+ *
+ * rt staticlib library
+ * cc -std=c99 -O2 -I include examples/link.c -L target/staticlib -l:liblibrary.a -o target/link_c && target/link_c
+ */
+#include <point_memory.h>
+#include <stdio.h>
+#include <string.h>
+
+#define STEPS 33
+
+/* A plan of one card, job, block and word; its update adds 2 to the word. */
+static const char plan[] = "plan\t1\t1\t1\t1\t1\n"
+                           "job\t0\t0\n"
+                           "block\t5\n"
+                           "update\n"
+                           "add\t0\t0\t2\n";
+
+/* Prints how a run ended and its report; answers whether they are the expected ones. */
+static int shown(const char *way, point_memory_ended ended, const uint8_t *buffer, size_t line, const char *report) {
+    printf("%s: number %zu, line %zu, report of %zu bytes\n", way, ended.number, ended.line, ended.length);
+    fwrite(buffer, 1, ended.length, stdout);
+    return ended.number == 0 && ended.line == line && ended.length == strlen(report) &&
+           memcmp(buffer, report, ended.length) == 0;
+}
+
+int main(void) {
+    static uint8_t buffer[POINT_MEMORY_REPORT_ROOM];
+    point_memory_entry records[1 + STEPS] = {{POINT_MEMORY_CALL, 0, 0}};
+    char text[sizeof plan + sizeof "call\t0\t0\n" + STEPS * sizeof "step\t0\n"];
+    int as_text, as_records, i;
+
+    /* The schedule: one call, then the steps in which it is carried out and returns. */
+    strcpy(text, plan);
+    strcat(text, "call\t0\t0\n");
+    for (i = 1; i <= STEPS; i++) {
+        strcat(text, "step\t0\n");
+        records[i].kind = POINT_MEMORY_STEP;
+    }
+
+    /* The lengths do not count the zero byte that ends a C string. */
+    as_text = shown("text", point_memory_run((const uint8_t *)text, strlen(text), buffer, sizeof buffer), buffer, 39,
+                    "commit\t29\t0\t0\nblock\t7\nend\t0\t39\n");
+    as_records = shown("records",
+                       point_memory_run_schedule((const uint8_t *)plan, strlen(plan), records, 1 + STEPS, buffer,
+                                                 sizeof buffer),
+                       buffer, 34, "commit\t29\t0\t0\nblock\t7\nend\t0\t34\n");
+    return as_text && as_records ? 0 : 1;
+}

@@ -1,0 +1,102 @@
+/*
+ * The point memory machine for C (C99 and later) and C++: check a text, run a text, run a schedule of records. The
+ * library is built by `rt staticlib library` and linked as target/staticlib/liblibrary.a; examples/link.c shows how.
+ * Every function is proved to answer what document 01 says, for all bytes, records and lengths handed in.
+ *
+ * What a caller must ensure:
+ *
+ * - A pointer is valid for its length through the whole call: for that many bytes, or that many records. It is not
+ *   null and is aligned (records: 4 bytes) also where the length is 0.
+ * - The text and the records are not written to by anyone during the call. The buffer is read and written by this call
+ *   alone, and does not overlap the text or the records.
+ * - No length exceeds 2^63 - 1 bytes; for records that is 12 bytes each.
+ * - There are 512 KB of stack for the call.
+ *
+ * Beyond that there is nothing to ensure. Any bytes may stand in a text and in the buffer, any numbers in a record. No
+ * state is handed in, and none is kept between calls. Nothing is locked and nothing is allocated on the heap, so
+ * several threads may call at once, each with a buffer of its own. A call neither keeps nor frees what it was lent.
+ *
+ * The numbers that are answered, the first line with a fault counting, and in it the lowest number (the whole table is
+ * in document 01):
+ *
+ *    0  accepted; line is the count of all lines, or of all records
+ *    1  text over 65,536 bytes (line 0)
+ *    2  last line without its line feed, or unknown first field
+ *    3  the kind cannot stand here, or the text ends too early (line is one past the last); a record of another kind
+ *    4  wrong count of fields, or a bad number
+ *    5  33rd update, 17th move, 4,001st entry or record
+ *    6  P, N, B, S or C outside its range
+ *    7  a job's card not below P, or its priority over 255
+ *    8  same card and priority as an earlier job
+ *    9  a move's word not below B times S
+ *   10  the update writes more than C blocks
+ *   11  call: no such job or no such update
+ *   12  call: job active
+ *   13  step: card not below P
+ *   14  step: no job active on the card
+ *   15  report longer than the buffer (line 0)
+ *
+ * 1 to 10 are judged before any entry runs, and leave no report. 11 to 14 stop the run; the report is of the state
+ * before that entry. 15 is decided last, and leaves the buffer untouched. Lines, and places of records, count from 1.
+ */
+#ifndef POINT_MEMORY_H
+#define POINT_MEMORY_H
+
+#include <stddef.h>
+#include <stdint.h>
+
+#ifdef __cplusplus
+extern "C" {
+#endif
+
+/* A buffer of so many bytes is long enough for every report. */
+#define POINT_MEMORY_REPORT_ROOM 80000
+
+/* What a check answers: a number from 0 to 10, and its line. */
+typedef struct {
+    size_t number;
+    size_t line;
+} point_memory_answer;
+
+/* What a run answers: a number from 0 to 15, its line or the record's place, and the length of the report, which stands
+   in the first bytes of the buffer; 0 where none is written. */
+typedef struct {
+    size_t number;
+    size_t line;
+    size_t length;
+} point_memory_ended;
+
+/* The kinds of an entry record. */
+#define POINT_MEMORY_CALL 0
+#define POINT_MEMORY_STEP 1
+
+/* An entry as a record. A call has the job and the update; a step has the card, its second number is unused. */
+typedef struct {
+    uint32_t kind;
+    uint32_t first;
+    uint32_t second;
+} point_memory_entry;
+
+/* Checks a text, without running its entries: 0 and the count of its lines, or a number from 1 to 10 and the line. */
+point_memory_answer point_memory_check(const uint8_t *text, size_t text_length);
+
+/* The same for a plan's text, in which an entry line is 3. */
+point_memory_answer point_memory_check_plan(const uint8_t *text, size_t text_length);
+
+/* Checks a text, runs its entries up to the first refused one, and writes the report into the first bytes of the
+   buffer. The bytes past the report keep what they held; where no report is written, all of them do. */
+point_memory_ended point_memory_run(
+    const uint8_t *text, size_t text_length, uint8_t *buffer, size_t buffer_length);
+
+/* The same for a plan's text with the entries as records. After the text's check and before any record runs, over 4,000
+   records give 5 at place 4,001, else the first record of another kind gives 3 at its place, both without a report. For
+   these and for 11 to 14 the line is the record's place; acceptance gives the count of records. */
+point_memory_ended point_memory_run_schedule(
+    const uint8_t *text, size_t text_length, const point_memory_entry *records, size_t count, uint8_t *buffer,
+    size_t buffer_length);
+
+#ifdef __cplusplus
+}
+#endif
+
+#endif
