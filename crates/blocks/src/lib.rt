@@ -2,28 +2,20 @@
 ghost use mathlib.Core.Path.{_≡_};
 ghost use mathlib.Core.Bool.{cond};
 ghost use Prim.Native.Nat.{_≤_, _<_, _+_, _*_};
-ghost use lib.ListN.{getD};
-ghost use Rattle.format.specs.Plan.{blockOf};
-ghost use Rattle.format.specs.Stored.{table};
+ghost use Rattle.format.specs.Plan.{blockOf, table};
+ghost use Rattle.layout.specs.PlanTable.{targetAt};
 ghost use Rattle.line.specs.Steps.{writesTo};
 use format::Sizes;
+use layout::PLAN_PLACES;
 
-// The block of a word.
-fn block_of(word: u8, size: u32) -> u32
-    requires { ⌜ 0 < size ⌝ }
-    ensures { λ r. ⌜ r ≡ blockOf size word ⌝ }
-{
-    word as u32 / size
-}
-
-// Whether one of the n moves that stand from a place on writes a block of the given size.
-fn writes_block(targets: &[u8; 512], from: usize, n: usize, size: u32, block: u32) -> bool
+// Whether one of the n moves from one on writes a block of the given size.
+fn writes_block(plan: &[u32; PLAN_PLACES], from: usize, n: usize, size: u32, block: u32) -> bool
     requires { ⌜ (from + n ≤ 512) × (0 < size) ⌝ }
-    ensures { λ r. ⌜ r ≡ writesTo size block (table n (λ i. getD (now (targets .entry)) (from + i) 0)) ⌝ }
+    ensures { λ r. ⌜ r ≡ writesTo size block (table n (λ i. targetAt (now (plan .entry)) (from + i))) ⌝ }
 {
     let mut i = 0;
     while i < n {
-        if block_of(targets[from + i], size) == block {
+        if layout::target(plan, from + i) / size == block {
             return true;
         }
         i += 1;
@@ -33,7 +25,7 @@ fn writes_block(targets: &[u8; 512], from: usize, n: usize, size: u32, block: u3
 
 // How many blocks an update writes with one more move, of word d, where it writes `blocks` of them with its n moves.
 pub fn blocks_with(
-    targets: &[u8; 512],
+    plan: &[u32; PLAN_PLACES],
     from: usize,
     n: usize,
     size: u32,
@@ -42,11 +34,11 @@ pub fn blocks_with(
 ) -> usize
     requires { ⌜ (from + n ≤ 512) × ((0 < size) × (blocks ≤ 8)) ⌝ }
     ensures { λ r. ⌜ r
-        ≡ cond (writesTo size (blockOf size d) (table n (λ i. getD (now (targets .entry)) (from + i) 0)))
+        ≡ cond (writesTo size (blockOf size d) (table n (λ i. targetAt (now (plan .entry)) (from + i))))
         blocks
         (blocks + 1) ⌝ }
 {
-    if writes_block(targets, from, n, size, d / size) {
+    if writes_block(plan, from, n, size, d / size) {
         return blocks;
     }
     blocks + 1

@@ -5,5 +5,4 @@ pub mod Items
 pub mod Faults
 pub mod Reading
 pub mod FirstFault
-pub mod Stored
 pub mod Sound

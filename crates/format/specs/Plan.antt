@@ -1,7 +1,7 @@
 -- The plan: "P cards (1 to 8), N jobs (1 to 16), B blocks (1 to 16) of S words (1 to 16), and C (1 to 8), the most
 -- blocks one update may write." A plan is lists of exact length, so that equal plans are equal values.
 -- Sizes (P N B S C), Job, Move and Entry are declared in src/lib.rt. Assumes nothing.
-use Prim.Native.Nat.{ℕ, _/_}
+use Prim.Native.Nat.{ℕ, zero, suc, _/_}
 use mathlib.Core.Bool.{Bool, false, cond, _||_}
 use mathlib.Core.List.{List, [], _∷_, _++_}
 use lib.Dec.{eqb}
@@ -26,6 +26,11 @@ jobIn plan k = getD (plan .jobs) k (record { card = 0; priority = 0 })
 pub record Listed : Type 0 where
   pub entry : Entry
   pub line : ℕ
+
+-- What f gives at 0, 1, .., n − 1.
+abbrev pub table : {A : Type 0} → ℕ → (ℕ → A) → List A
+table zero f = []
+table (suc n) f = table n f ++ (f n ∷ [])
 
 -- "Word w is in block w div S."
 abbrev pub blockOf : ℕ → ℕ → ℕ

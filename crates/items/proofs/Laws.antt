@@ -13,7 +13,7 @@ use lib.ListN.{length, getD}
 use Rattle.format.specs.declared.Sizes.{Sizes}
 use Rattle.format.specs.declared.Move.{Move}
 use Rattle.format.specs.Plan.{Plan, named}
-use Rattle.format.specs.Stored.{moveOf}
+use Rattle.layout.specs.PlanTable.{moveOf}
 use Rattle.format.specs.Faults.{someFrom}
 use Rattle.model.specs.declared.Stage.{Stage}
 use Rattle.model.specs.declared.Place.{Place}

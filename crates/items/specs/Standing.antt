@@ -7,7 +7,7 @@ use lib.ListN.{length, getD}
 use Rattle.format.specs.declared.Sizes.{Sizes}
 use Rattle.format.specs.declared.Move.{Move}
 use Rattle.format.specs.Plan.{Plan, jobIn}
-use Rattle.format.specs.Stored.{moveOf}
+use Rattle.layout.specs.PlanTable.{moveOf}
 use Rattle.format.specs.Sound.{Sound}
 use Rattle.model.specs.declared.Working.{Working}
 use Rattle.model.specs.declared.Cells.{Cells}

@@ -2,10 +2,11 @@
 ghost use mathlib.Core.Path.{_≡_};
 ghost use Rattle.format.specs.Kinds.{same, kindOf};
 ghost use Rattle.format.specs.Faults.{stands, isUnknown, laidOut};
-ghost use Rattle.format.specs.Stored.{Arrays, draftOf};
+ghost use Rattle.line.specs.Steps.{draftOf};
 use format::Form;
 use format::Kind;
-use format::Progress;
+use layout::PLAN_PLACES;
+use line::Progress;
 
 // Whether two slices hold the same bytes.
 fn same_bytes(a: &[u8], b: &[u8]) -> bool
@@ -70,10 +71,10 @@ pub fn is_unknown(kind: Kind) -> bool
 }
 
 // Whether the plan line, all jobs and all blocks are there.
-pub fn laid_out(p: Progress) -> bool
-    ensures { λ r. ⌜ ((a : Arrays) → r ≡ laidOut (draftOf p a)) ⌝ }
+pub fn laid_out(p: Progress, plan: &[u32; PLAN_PLACES]) -> bool
+    ensures { λ r. ⌜ r ≡ laidOut (draftOf p (now (plan .entry))) ⌝ }
 {
-    let sizes = p.sizes;
+    let sizes = layout::sizes(plan);
     if p.lines == 0 {
         return false;
     }
@@ -86,11 +87,19 @@ pub fn laid_out(p: Progress) -> bool
     true
 }
 
-// Whether a block can stand here: all jobs are there, and not all blocks.
-fn block_stands(p: Progress) -> bool
-    ensures { λ r. ⌜ ((form : Form) (a : Arrays) → r ≡ stands form (draftOf p a) Kind.Block) ⌝ }
+// Whether a job can stand here: not all jobs are there.
+fn job_stands(p: Progress, plan: &[u32; PLAN_PLACES]) -> bool
+    ensures { λ r. ⌜ ((form : Form) → r ≡ stands form (draftOf p (now (plan .entry))) Kind.Job) ⌝ }
 {
-    let sizes = p.sizes;
+    let sizes = layout::sizes(plan);
+    p.jobs < sizes.jobs
+}
+
+// Whether a block can stand here: all jobs are there, and not all blocks.
+fn block_stands(p: Progress, plan: &[u32; PLAN_PLACES]) -> bool
+    ensures { λ r. ⌜ ((form : Form) → r ≡ stands form (draftOf p (now (plan .entry))) Kind.Block) ⌝ }
+{
+    let sizes = layout::sizes(plan);
     if p.jobs < sizes.jobs {
         return false;
     }
@@ -98,51 +107,50 @@ fn block_stands(p: Progress) -> bool
 }
 
 // Whether an update can stand here: the plan is laid out, and no entry has been read.
-fn update_stands(p: Progress) -> bool
-    ensures { λ r. ⌜ ((form : Form) (a : Arrays) → r ≡ stands form (draftOf p a) Kind.Update) ⌝ }
+fn update_stands(p: Progress, plan: &[u32; PLAN_PLACES]) -> bool
+    ensures { λ r. ⌜ ((form : Form) → r ≡ stands form (draftOf p (now (plan .entry))) Kind.Update) ⌝ }
 {
-    if laid_out(p) {
+    if laid_out(p, plan) {
         return p.entries == 0;
     }
     false
 }
 
 // Whether a move can stand here: where an update can, and behind one.
-fn move_stands(p: Progress) -> bool
-    ensures { λ r. ⌜ ((form : Form) (a : Arrays) → r ≡ stands form (draftOf p a) Kind.Copy) ⌝ }
+fn move_stands(p: Progress, plan: &[u32; PLAN_PLACES]) -> bool
+    ensures { λ r. ⌜ ((form : Form) → r ≡ stands form (draftOf p (now (plan .entry))) Kind.Copy) ⌝ }
 {
-    if update_stands(p) {
-        return 0 < p.updates;
+    if update_stands(p, plan) {
+        return 0 < layout::updates(plan);
     }
     false
 }
 
 // Whether an entry can stand here: the text takes entries, and the plan is laid out.
-fn entry_stands(form: Form, p: Progress) -> bool
-    ensures { λ r. ⌜ ((a : Arrays) → r ≡ stands form (draftOf p a) Kind.Call) ⌝ }
+fn entry_stands(form: Form, p: Progress, plan: &[u32; PLAN_PLACES]) -> bool
+    ensures { λ r. ⌜ r ≡ stands form (draftOf p (now (plan .entry))) Kind.Call ⌝ }
 {
     if let Form::Schedule = form {
-        laid_out(p)
+        laid_out(p, plan)
     } else {
         false
     }
 }
 
 // Whether a kind can stand here.
-pub fn can_stand(form: Form, p: Progress, kind: Kind) -> bool
-    ensures { λ r. ⌜ ((a : Arrays) → r ≡ stands form (draftOf p a) kind) ⌝ }
+pub fn can_stand(form: Form, p: Progress, plan: &[u32; PLAN_PLACES], kind: Kind) -> bool
+    ensures { λ r. ⌜ r ≡ stands form (draftOf p (now (plan .entry))) kind ⌝ }
 {
-    let sizes = p.sizes;
     match kind {
         Kind::Plan => p.lines == 0,
-        Kind::Job => p.jobs < sizes.jobs,
-        Kind::Block => block_stands(p),
-        Kind::Update => update_stands(p),
-        Kind::Copy => move_stands(p),
-        Kind::Set => move_stands(p),
-        Kind::Add => move_stands(p),
-        Kind::Call => entry_stands(form, p),
-        Kind::Step => entry_stands(form, p),
+        Kind::Job => job_stands(p, plan),
+        Kind::Block => block_stands(p, plan),
+        Kind::Update => update_stands(p, plan),
+        Kind::Copy => move_stands(p, plan),
+        Kind::Set => move_stands(p, plan),
+        Kind::Add => move_stands(p, plan),
+        Kind::Call => entry_stands(form, p, plan),
+        Kind::Step => entry_stands(form, p, plan),
         Kind::Unknown => false,
     }
 }

@@ -4,5 +4,6 @@ pub mod Judged
 pub mod Tables
 pub mod Stores
 pub mod Written
+pub mod Kept
 pub mod Lines
 pub mod Blocks

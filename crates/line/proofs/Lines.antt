@@ -1,115 +1,55 @@
--- One line, kind by kind: what is stored or answered is what the definitions say. Each law is about the values alone;
--- the proof of a line's function cites it at each of the function's ends. Assumes nothing.
+-- One line, kind by kind: what is put or answered is what the definitions say. Each law is about the values alone; the
+-- proof of a line's function cites it at each of the function's ends. Assumes that what has been read holds.
 use Prim.Native.Nat.{ℕ, _+_, _*_, _≤_, _<_}
-use mathlib.Core.Path.{_≡_, refl, sym, _∙_}
+use mathlib.Core.Path.{_≡_, refl, sym, _∙_, ap, subst}
+use mathlib.Core.Logic.{inl, inr}
 use mathlib.Core.Bool.{true, false, cond, _||_}
-use mathlib.Core.List.{List, [], _∷_, _++_}
+use mathlib.Core.List.{List, [], _∷_, _++_, append-nil}
 use mathlib.Core.Option.{Option, none, some}
-use native.Mathlib.Nat.{zero-mul}
+use native.Mathlib.Nat.{zero-mul, mul-le-mul, add-mul, one-mul}
 use native.Mathlib.Numerals.{add-one}
 use native.Mathlib.Omega.{arith}
 use native.Mathlib.Decide.{decLt}
 use borrow.Author.Tests.{leb-true, le-leb, lt-leb, lt-ltb, le-ltb}
 use lib.Dec.{ltb, leb}
-use lib.ListN.{length, getD, take, set, length-set}
-use lib.Seq.{getD-set-same, getD-set-other}
+use lib.ListN.{length}
 use Rattle.text.proofs.Cases.{both}
+use Rattle.text.specs.declared.Numbers.{Numbers}
+use Rattle.text.specs.Places.{readInto}
 use Rattle.format.specs.declared.Fault.{Fault}
 use Rattle.format.specs.declared.Kind.{Kind}
 use Rattle.format.specs.declared.Sizes.{Sizes}
 use Rattle.format.specs.declared.Job.{Job}
 use Rattle.format.specs.declared.Move.{Move}
 use Rattle.format.specs.declared.Entry.{Entry}
-use Rattle.format.specs.declared.Progress.{Progress}
-use Rattle.format.specs.Plan.{named, written, target}
-use Rattle.text.specs.declared.Numbers.{Numbers}
-use Rattle.text.specs.Places.{readInto}
+use Rattle.format.specs.Plan.{named, table, written}
 use Rattle.format.specs.Items.{Item, item, itemOf, plan, job, block, update, move, entry}
 use Rattle.format.specs.Faults.{inRange, within, taken, someFrom, lastOf}
-use Rattle.format.specs.Reading.{addToLast}
-use Rattle.format.specs.Stored.{Arrays, draftOf, table, jobAt, moveAt, updateAt, moveOf, codeOf, sourceOf, amountOf}
+use Rattle.format.specs.Reading.{addToLast, listed}
+use Rattle.format.proofs.Tables.{length-table}
+use Rattle.layout.specs.Puts.{part, Put}
+use Rattle.layout.specs.PlanTable.{planPlaces, updatesAt, cardsAt, prioritiesAt, countsAt, wordsAt, movesAt}
+use Rattle.layout.specs.PlanTable.{sizesIn, updatesIn, jobAt, countAt, moveStart, moveAt, updateAt, numbersOf}
+use Rattle.layout.specs.EntryTable.{entryPlaces, entryStart, notesOf, listedIn}
+use Rattle.layout.proofs.Puts.{Same, outside, same-then, put-there}
+use Rattle.layout.proofs.PlanTable.{sizes-same, jobs-more, words-more, updates-more, moves-more}
+use Rattle.layout.proofs.EntryTable.{entries-more}
+use Rattle.line.specs.declared.Progress.{Progress}
 use Rattle.line.specs.declared.LineRead.{LineRead}
-use Rattle.line.specs.Steps.{LineStep, Holds, Ranged, Roomy, withJobs, withWords, withMoves, withCounts, jobIn}
+use Rattle.line.specs.Steps.{Tables, tables, draftOf, Ranged, Holds, Noted, LineStep}
 use Rattle.line.proofs.Judged.{bad-fields, plan-judged, job-judged, block-judged}
 use Rattle.line.proofs.Judged.{update-judged, move-judged, entry-judged}
-use Rattle.format.proofs.Tables.{length-table, table-same, table-more}
 use Rattle.line.proofs.Stores.{last-is, added-last}
+use Rattle.line.proofs.Kept.{onward, drafted, still-ranged, sizes-kept, count-kept, ranged-kept}
+use Rattle.line.proofs.Kept.{words-kept, jobs-kept, updates-kept, holds-kept}
 
--- The arrays still have room after stores to the jobs.
-roomy-jobs : (a : Arrays) (cs ps cs′ ps′ : List ℕ) → Roomy (withJobs a cs ps) → length cs′ ≡ length cs
-    → length ps′ ≡ length ps → Roomy (withJobs a cs′ ps′)
-roomy-jobs a cs ps cs′ ps′ r c p =
+-- A line that says no entry notes none.
+silent : (p q : Progress) (e : List ℕ) (i : Option Item) → q .entries ≡ p .entries → listed (p .lines + 1) i ≡ []
+    → Noted p q e e i
+silent p q e i same nothing =
     record {
-      cards = c ∙ r .cards;
-      priorities = p ∙ r .priorities;
-      words = r .words;
-      counts = r .counts;
-      kinds = r .kinds;
-      targets = r .targets;
-      sources = r .sources;
-      amounts = r .amounts;
-    }
-
--- The same after stores to the words.
-roomy-words : (a : Arrays) (ws ws′ : List ℕ) → Roomy (withWords a ws) → length ws′ ≡ length ws
-    → Roomy (withWords a ws′)
-roomy-words a ws ws′ r e =
-    record {
-      cards = r .cards;
-      priorities = r .priorities;
-      words = e ∙ r .words;
-      counts = r .counts;
-      kinds = r .kinds;
-      targets = r .targets;
-      sources = r .sources;
-      amounts = r .amounts;
-    }
-
--- The same after stores to the counts of moves.
-roomy-counts : (a : Arrays) (cs cs′ : List ℕ) → Roomy (withCounts a cs) → length cs′ ≡ length cs
-    → Roomy (withCounts a cs′)
-roomy-counts a cs cs′ r e =
-    record {
-      cards = r .cards;
-      priorities = r .priorities;
-      words = r .words;
-      counts = e ∙ r .counts;
-      kinds = r .kinds;
-      targets = r .targets;
-      sources = r .sources;
-      amounts = r .amounts;
-    }
-
--- The progress after one more line, with these numbers of jobs, blocks, updates, blocks written and entries.
-abbrev pub onward : Progress → ℕ → ℕ → ℕ → ℕ → ℕ → Progress
-onward p j b u w e =
-    record {
-      sizes = p .sizes;
-      lines = p .lines + 1;
-      jobs = j;
-      blocks = b;
-      updates = u;
-      written = w;
-      entries = e;
-    }
-
--- The numbers stay in their ranges where one line adds one of them.
-still-ranged : (p : Progress) (j b u w e : ℕ) → Ranged p → p .lines < 65536 → j ≤ p .sizes .jobs → b ≤ p .sizes .blocks
-    → u ≤ 32 → w ≤ 8 → e ≤ 4000 → j + b + u + e ≤ p .lines + 1 → Ranged (onward p j b u w e)
-still-ranged p j b u w e r room hj hb hu hw he sum =
-    record {
-      cards = r .cards;
-      jobs = r .jobs;
-      blocks = r .blocks;
-      words = r .words;
-      copies = r .copies;
-      jobs-read = hj;
-      blocks-read = hb;
-      updates-read = hu;
-      entries-read = he;
-      lines-read = omega arith;
-      blocks-written = hw;
-      in-lines = sum;
+      long = refl;
+      more = rw (same, nothing) (sym (append-nil (listedIn (p .entries) e)));
     }
 
 module _ (k : Kind) (r : Numbers) (ws : List ℕ) (ns : Option (List ℕ)) (e : readInto r ws ≡ ns) where
@@ -121,31 +61,24 @@ module _ (k : Kind) (r : Numbers) (ws : List ℕ) (ns : Option (List ℕ)) (e : 
   pub good-item : r ≡ Numbers.Read → itemOf k ns ≡ item k ws
   good-item g = rw (← e, g)
 
-module _ (k : Kind) (p : Progress) (a a′ : Arrays) where
+module _ (k : Kind) (p : Progress) (x x′ : Tables) where
   -- A line whose fields cannot be read.
-  pub malformed : (i : Option Item) → i ≡ none → LineStep k p a a′ i (LineRead.Refused Fault.Malformed (p .lines + 1))
-  malformed i e = record { says = λ h form u s. rw e (sym (bad-fields form (draftOf p a) k u s)); holds = λ h. tt }
+  pub malformed : (i : Option Item) → i ≡ none → LineStep k p x x′ i (LineRead.Refused Fault.Malformed (p .lines + 1))
+  malformed i e =
+      record {
+        says = λ form u s. rw e (sym (bad-fields form (draftOf p (x .plan)) k u s));
+        holds = tt;
+        noted = tt;
+      }
 
 -- A plan line with a size out of its range.
-pub bad-size : (p : Progress) (a : Arrays) (i : Option Item) (z : Sizes) → i ≡ some (plan z) → inRange z ≡ false
-    → LineStep Kind.Plan p a a i (LineRead.Refused Fault.BadSize (p .lines + 1))
-bad-size p a i z e bad =
+pub bad-size : (p : Progress) (x x′ : Tables) (i : Option Item) (z : Sizes) → i ≡ some (plan z) → inRange z ≡ false
+    → LineStep Kind.Plan p x x′ i (LineRead.Refused Fault.BadSize (p .lines + 1))
+bad-size p x x′ i z e bad =
     record {
-      says = λ h form u s. rw (e, plan-judged form (draftOf p a) Kind.Plan u s z, bad);
-      holds = λ h. tt;
-    }
-
--- The progress after a plan line.
-abbrev pub nextPlan : Progress → Sizes → Progress
-nextPlan p z =
-    record {
-      sizes = z;
-      lines = p .lines + 1;
-      jobs = p .jobs;
-      blocks = p .blocks;
-      updates = p .updates;
-      written = p .written;
-      entries = p .entries;
+      says = λ form u s. rw (e, plan-judged form (draftOf p (x .plan)) Kind.Plan u s z, bad);
+      holds = tt;
+      noted = tt;
     }
 
 -- A number that is from low to high is at most high.
@@ -157,162 +90,249 @@ none-written : (s n : ℕ) (f : ℕ → List Move) → n ≡ 0 → length (writt
 unfolding written
 none-written s n f e = rw e
 
--- A plan line.
-pub plan-read : (p : Progress) (a : Arrays) (i : Option Item) (z : Sizes) → i ≡ some (plan z) → inRange z ≡ true
-    → p .lines ≡ 0 → Ranged p
-    → LineStep Kind.Plan p a a i (LineRead.Read (nextPlan p z))
-plan-read p a i z e good start r =
+-- A plan line: its sizes are put, and nothing else has been read.
+pub plan-read : (p : Progress) (t u e : List ℕ) (i : Option Item) (z : Sizes) → i ≡ some (plan z)
+    → inRange z ≡ true → p .lines ≡ 0 → Holds p t
+    → Put 0 (z .cards ∷ z .jobs ∷ z .blocks ∷ z .words ∷ z .copies ∷ []) t u
+    → LineStep Kind.Plan p (tables t e) (tables u e) i
+    (LineRead.Read (onward p (p .jobs) (p .blocks) (p .written) (p .entries)))
+plan-read p t u e i z says-it good start h put =
     record {
       says =
-          λ h form u s.
-          let none-yet : p .blocks ≡ 0 = omega arith in
-          rw (
-            e,
-            plan-judged form (draftOf p a) Kind.Plan u s z,
-            good,
-            none-yet,
-            zero-mul (z .words),
-            zero-mul (p .sizes .words),
-          );
+          λ form a b.
+          rw (says-it, plan-judged form (draftOf p t) Kind.Plan a b z, good)
+          (drafted (p .lines + 1) (p .blocks) (p .entries)
+          (λ k. record { sizes = sizes k; jobs = jobs k; words = words k; updates = updates k }));
       holds =
-          λ h.
-          let b1 = both (within 1 8 (z .cards)) _ good in
-          let b2 = both (within 1 16 (z .jobs)) _ (b1 .1) in
-          let b3 = both (within 1 16 (z .blocks)) _ (b2 .1) in
-          let b4 = both (within 1 16 (z .words)) (within 1 8 (z .copies)) (b3 .1) in
-          let no-updates : p .updates ≡ 0 = omega arith in
           record {
-            ranged =
-                record {
-                  cards = at-most 1 8 (z .cards) (b1 .0);
-                  jobs = at-most 1 16 (z .jobs) (b2 .0);
-                  blocks = at-most 1 16 (z .blocks) (b3 .0);
-                  words = at-most 1 16 (z .words) (b4 .0);
-                  copies = at-most 1 8 (z .copies) (b4 .1);
-                  jobs-read = omega arith;
-                  blocks-read = omega arith;
-                  updates-read = omega arith;
-                  entries-read = omega arith;
-                  lines-read = omega arith;
-                  blocks-written = omega arith;
-                  in-lines = omega arith;
-                };
-            roomy = h .roomy;
-            filled = h .filled;
+            ranged = subst (λ (y : Sizes). Ranged next y (updatesIn u)) (sym sizes) ranged;
+            room = put .long ∙ h .room;
+            filled = λ v l. absurd (omega (arith, none-u));
             counted =
                 h .counted
-                ∙ none-written (p .sizes .words) (p .updates) (updateAt a) no-updates
-                ∙ sym (none-written (z .words) (p .updates) (updateAt a) no-updates);
+                ∙ none-written (sizesIn t .words) (updatesIn t) (updateAt t) none-t
+                ∙ sym (none-written (sizesIn u .words) (updatesIn u) (updateAt u) none-u);
           };
+      noted = silent p next e i refl (ap (listed (p .lines + 1)) says-it);
     }
+  where
+    next : Progress
+    next = onward p (p .jobs) (p .blocks) (p .written) (p .entries)
+
+    no-jobs : p .jobs ≡ 0
+    no-jobs = omega (arith, h .ranged .in-lines)
+
+    no-blocks : p .blocks ≡ 0
+    no-blocks = omega (arith, h .ranged .in-lines)
+
+    none-t : updatesIn t ≡ 0
+    none-t = omega (arith, h .ranged .in-lines)
+
+    none-u : updatesIn u ≡ 0
+    none-u = outside put updatesAt cardsAt (inr (omega arith)) .at updatesAt (omega arith) (omega arith) ∙ none-t
+
+    sizes : sizesIn u ≡ z
+    sizes =
+        λ k.
+        record {
+          cards = put .there (omega (arith, h .room)) 0 (omega arith) k;
+          jobs = put .there (omega (arith, h .room)) 1 (omega arith) k;
+          blocks = put .there (omega (arith, h .room)) 2 (omega arith) k;
+          words = put .there (omega (arith, h .room)) 3 (omega arith) k;
+          copies = put .there (omega (arith, h .room)) 4 (omega arith) k;
+        }
+
+    jobs : table (p .jobs) (jobAt u) ≡ table (p .jobs) (jobAt t)
+    jobs = rw no-jobs
+
+    words : part u wordsAt (p .blocks * sizesIn u .words) ≡ part t wordsAt (p .blocks * sizesIn t .words)
+    words = rw (no-blocks, zero-mul (sizesIn u .words), zero-mul (sizesIn t .words))
+
+    updates : table (updatesIn u) (updateAt u) ≡ table (updatesIn t) (updateAt t)
+    updates = rw (none-u, none-t)
+
+    ranged : Ranged next z (updatesIn u)
+    ranged =
+        let b1 = both (within 1 8 (z .cards)) _ good in
+        let b2 = both (within 1 16 (z .jobs)) _ (b1 .1) in
+        let b3 = both (within 1 16 (z .blocks)) _ (b2 .1) in
+        let b4 = both (within 1 16 (z .words)) (within 1 8 (z .copies)) (b3 .1) in
+        record {
+          cards = at-most 1 8 (z .cards) (b1 .0);
+          jobs = at-most 1 16 (z .jobs) (b2 .0);
+          blocks = at-most 1 16 (z .blocks) (b3 .0);
+          words = at-most 1 16 (z .words) (b4 .0);
+          copies = at-most 1 8 (z .copies) (b4 .1);
+          jobs-read = omega (arith, no-jobs);
+          blocks-read = omega (arith, no-blocks);
+          updates-read = omega (arith, none-u);
+          entries-read = h .ranged .entries-read;
+          lines-read = omega arith;
+          blocks-written = h .ranged .blocks-written;
+          in-lines = omega (arith, no-jobs, no-blocks, none-u, h .ranged .in-lines);
+        }
 
 -- A job out of its range, or with the card and priority of an earlier one.
-pub bad-job : (p : Progress) (a a′ : Arrays) (i : Option Item) (j : Job) (f : Fault) → i ≡ some (job j)
-    → cond (leb (p .sizes .cards) (j .card) || ltb 255 (j .priority)) (some Fault.BadJob)
-    (cond (taken j (table (p .jobs) (jobAt a))) (some Fault.SameJob) none)
+pub bad-job : (p : Progress) (x x′ : Tables) (i : Option Item) (j : Job) (f : Fault) → i ≡ some (job j)
+    → cond (leb (sizesIn (x .plan) .cards) (j .card) || ltb 255 (j .priority)) (some Fault.BadJob)
+    (cond (taken j (table (p .jobs) (jobAt (x .plan)))) (some Fault.SameJob) none)
     ≡ some f
-    → LineStep Kind.Job p a a′ i (LineRead.Refused f (p .lines + 1))
-bad-job p a a′ i j f e bad =
+    → LineStep Kind.Job p x x′ i (LineRead.Refused f (p .lines + 1))
+bad-job p x x′ i j f e bad =
     record {
-      says = λ h form u s. rw (e, job-judged form (draftOf p a) Kind.Job u s j, bad);
-      holds = λ h. tt;
+      says = λ form u s. rw (e, job-judged form (draftOf p (x .plan)) Kind.Job u s j, bad);
+      holds = tt;
+      noted = tt;
     }
 
--- The jobs after a store behind the first n.
-jobs-stored : (cs ps : List ℕ) (n : ℕ) (j : Job) → n < length cs → n < length ps
-    → table (n + 1) (jobIn (set cs n (j .card)) (set ps n (j .priority))) ≡ table n (jobIn cs ps) ++ (j ∷ [])
-jobs-stored cs ps n j lc lp =
-    table-more n (jobIn cs ps) (jobIn (set cs n (j .card)) (set ps n (j .priority))) j
-    (λ i l. rw (getD-set-other cs n i (j .card) 0 (omega arith), getD-set-other ps n i (j .priority) 0 (omega arith)))
-    (rw (getD-set-same cs n (j .card) 0 lc, getD-set-same ps n (j .priority) 0 lp))
-
--- A job is stored behind the earlier ones.
-pub job-read : (p : Progress) (a : Arrays) (cs ps : List ℕ) (i : Option Item) (j : Job) → i ≡ some (job j)
-    → cond (leb (p .sizes .cards) (j .card) || ltb 255 (j .priority)) (some Fault.BadJob)
-    (cond (taken j (table (p .jobs) (jobIn cs ps))) (some Fault.SameJob) none)
+-- A job is put behind the earlier ones.
+pub job-read : (p : Progress) (t s u e : List ℕ) (i : Option Item) (j : Job) → i ≡ some (job j)
+    → cond (leb (sizesIn t .cards) (j .card) || ltb 255 (j .priority)) (some Fault.BadJob)
+    (cond (taken j (table (p .jobs) (jobAt t))) (some Fault.SameJob) none)
     ≡ none
-    → p .jobs < p .sizes .jobs → p .lines < 65536 → Ranged p
-    → LineStep Kind.Job p (withJobs a cs ps)
-    (withJobs a (set cs (p .jobs) (j .card)) (set ps (p .jobs) (j .priority)))
-    i
-    (LineRead.Read (onward p (p .jobs + 1) (p .blocks) (p .updates) (p .written) (p .entries)))
-job-read p a cs ps i j e good more room r =
+    → p .jobs < sizesIn t .jobs → p .lines < 65536 → Holds p t
+    → Put (cardsAt + p .jobs) (j .card ∷ []) t s → Put (prioritiesAt + p .jobs) (j .priority ∷ []) s u
+    → LineStep Kind.Job p (tables t e) (tables u e) i
+    (LineRead.Read (onward p (p .jobs + 1) (p .blocks) (p .written) (p .entries)))
+job-read p t s u e i j says-it good more room h put put′ =
     record {
       says =
-          λ h form u s.
-          rw (
-            e,
-            job-judged form (draftOf p (withJobs a cs ps)) Kind.Job u s j,
-            good,
-            jobs-stored cs ps (p .jobs) j (omega arith) (omega arith),
-          );
+          λ form a b.
+          rw (says-it, job-judged form (draftOf p t) Kind.Job a b j, good)
+          (drafted (p .lines + 1) (p .blocks) (p .entries)
+          (λ k. record { sizes = sizes k; jobs = jobs k; words = words k; updates = updates k }));
       holds =
-          λ h.
-          record {
-            ranged =
-                still-ranged p (p .jobs + 1) (p .blocks) (p .updates) (p .written) (p .entries) r room (omega arith)
-                (r .blocks-read) (r .updates-read) (r .blocks-written) (r .entries-read) (omega arith);
-            roomy =
-                roomy-jobs a cs ps _ _ (h .roomy) (length-set cs (p .jobs) (j .card))
-                (length-set ps (p .jobs) (j .priority));
-            filled = h .filled;
-            counted = h .counted;
-          };
+          holds-kept h count counts moves next sizes
+          (ranged-kept h first next
+          (still-ranged p (sizesIn t) (updatesIn t) (p .jobs + 1) (p .blocks) (updatesIn t) (p .written) (p .entries) r
+          room (omega arith) (r .blocks-read) (r .updates-read) (r .blocks-written) (r .entries-read) (omega arith)))
+          (put′ .long ∙ put .long)
+          refl;
+      noted = silent p next e i refl (ap (listed (p .lines + 1)) says-it);
     }
+  where
+    next : Progress
+    next = onward p (p .jobs + 1) (p .blocks) (p .written) (p .entries)
 
--- The words of a block are stored behind those of the earlier ones.
-pub block-read : (p : Progress) (a : Arrays) (old new ws : List ℕ) (i : Option Item) → i ≡ some (block ws)
-    → take ((p .blocks + 1) * p .sizes .words) new ≡ take (p .blocks * p .sizes .words) old ++ ws
-    → length new ≡ length old → p .blocks < p .sizes .blocks → p .lines < 65536 → Ranged p
-    → LineStep Kind.Block p (withWords a old) (withWords a new) i
-    (LineRead.Read (onward p (p .jobs) (p .blocks + 1) (p .updates) (p .written) (p .entries)))
-block-read p a old new ws i e stored long more room r =
+    r : Ranged p (sizesIn t) (updatesIn t)
+    r = h .ranged
+
+    few : p .jobs < 16
+    few = omega (arith, r .jobs)
+
+    first : Same 0 cardsAt t u
+    first = same-then (outside put 0 cardsAt (inl (omega arith))) (outside put′ 0 cardsAt (inl (omega arith)))
+
+    counts : Same countsAt wordsAt t u
+    counts =
+        same-then (outside put countsAt wordsAt (inr (omega (arith, few))))
+        (outside put′ countsAt wordsAt (inr (omega (arith, few))))
+
+    moves : Same movesAt planPlaces t u
+    moves =
+        same-then (outside put movesAt planPlaces (inr (omega (arith, few))))
+        (outside put′ movesAt planPlaces (inr (omega (arith, few))))
+
+    sizes : sizesIn u ≡ sizesIn t
+    sizes = sizes-kept h first
+
+    count : updatesIn u ≡ updatesIn t
+    count = count-kept h first
+
+    jobs : table (p .jobs + 1) (jobAt u) ≡ table (p .jobs) (jobAt t) ++ (j ∷ [])
+    jobs = jobs-more (p .jobs) j few (h .room) put put′
+
+    words : part u wordsAt (p .blocks * sizesIn u .words) ≡ part t wordsAt (p .blocks * sizesIn t .words)
+    words =
+        words-kept h sizes
+        (same-then (outside put wordsAt movesAt (inr (omega (arith, few))))
+        (outside put′ wordsAt movesAt (inr (omega (arith, few)))))
+
+    updates : table (updatesIn u) (updateAt u) ≡ table (updatesIn t) (updateAt t)
+    updates = updates-kept h count counts moves
+
+-- The words of a block are put behind those of the earlier ones.
+pub block-read : (p : Progress) (t u e ws : List ℕ) (i : Option Item) → i ≡ some (block ws)
+    → length ws ≡ sizesIn t .words → p .blocks < sizesIn t .blocks → p .lines < 65536 → Holds p t
+    → Put (wordsAt + p .blocks * sizesIn t .words) ws t u
+    → LineStep Kind.Block p (tables t e) (tables u e) i
+    (LineRead.Read (onward p (p .jobs) (p .blocks + 1) (p .written) (p .entries)))
+block-read p t u e ws i says-it many more room h put =
     record {
-      says = λ h form u s. rw (e, block-judged form (draftOf p (withWords a old)) Kind.Block u s ws, stored);
+      says =
+          λ form a b.
+          rw (says-it, block-judged form (draftOf p t) Kind.Block a b ws)
+          (drafted (p .lines + 1) (p .blocks + 1) (p .entries)
+          (λ k. record { sizes = sizes k; jobs = jobs k; words = words k; updates = updates k }));
       holds =
-          λ h.
-          record {
-            ranged =
-                still-ranged p (p .jobs) (p .blocks + 1) (p .updates) (p .written) (p .entries) r room
-                (r .jobs-read) (omega arith) (r .updates-read) (r .blocks-written) (r .entries-read) (omega arith);
-            roomy = roomy-words a old new (h .roomy) long;
-            filled = h .filled;
-            counted = h .counted;
-          };
+          holds-kept h count counts moves next sizes
+          (ranged-kept h first next
+          (still-ranged p (sizesIn t) (updatesIn t) (p .jobs) (p .blocks + 1) (updatesIn t) (p .written) (p .entries) r
+          room (r .jobs-read) (omega arith) (r .updates-read) (r .blocks-written) (r .entries-read) (omega arith)))
+          (put .long)
+          refl;
+      noted = silent p next e i refl (ap (listed (p .lines + 1)) says-it);
     }
+  where
+    next : Progress
+    next = onward p (p .jobs) (p .blocks + 1) (p .written) (p .entries)
+
+    r : Ranged p (sizesIn t) (updatesIn t)
+    r = h .ranged
+
+    fits : p .blocks * sizesIn t .words + sizesIn t .words ≤ 256
+    fits =
+        let few : p .blocks + 1 ≤ 16 = omega (arith, r .blocks) in
+        omega (
+          arith,
+          mul-le-mul few (r .words),
+          add-mul (p .blocks) 1 (sizesIn t .words),
+          one-mul (sizesIn t .words),
+        )
+
+    first : Same 0 cardsAt t u
+    first = outside put 0 cardsAt (inl (omega arith))
+
+    counts : Same countsAt wordsAt t u
+    counts = outside put countsAt wordsAt (inl (omega arith))
+
+    moves : Same movesAt planPlaces t u
+    moves = outside put movesAt planPlaces (inr (omega (arith, fits, many)))
+
+    sizes : sizesIn u ≡ sizesIn t
+    sizes = sizes-kept h first
+
+    count : updatesIn u ≡ updatesIn t
+    count = count-kept h first
+
+    jobs : table (p .jobs) (jobAt u) ≡ table (p .jobs) (jobAt t)
+    jobs = jobs-kept h (outside put cardsAt countsAt (inl (omega arith)))
+
+    words : part u wordsAt ((p .blocks + 1) * sizesIn u .words)
+        ≡ part t wordsAt (p .blocks * sizesIn t .words) ++ ws
+    words =
+        ap (λ (z : Sizes). part u wordsAt ((p .blocks + 1) * z .words)) sizes
+        ∙ words-more (p .blocks) (sizesIn t .words) ws (omega (arith, fits, h .room)) many put
+
+    updates : table (updatesIn u) (updateAt u) ≡ table (updatesIn t) (updateAt t)
+    updates = updates-kept h count counts moves
 
 -- The 33rd update.
-pub many-updates : (p : Progress) (a a′ : Arrays) (i : Option Item) → i ≡ some update → 32 ≤ p .updates
-    → LineStep Kind.Update p a a′ i (LineRead.Refused Fault.TooMany (p .lines + 1))
-many-updates p a a′ i e many =
+pub many-updates : (p : Progress) (x x′ : Tables) (i : Option Item) → i ≡ some update → 32 ≤ updatesIn (x .plan)
+    → LineStep Kind.Update p x x′ i (LineRead.Refused Fault.TooMany (p .lines + 1))
+many-updates p x x′ i e many =
     record {
       says =
-          λ h form u s.
+          λ form u s.
           rw (
             e,
-            update-judged form (draftOf p a) Kind.Update u s,
-            length-table (p .updates) (updateAt a),
-            le-leb 32 (p .updates) many,
+            update-judged form (draftOf p (x .plan)) Kind.Update u s,
+            length-table (updatesIn (x .plan)) (updateAt (x .plan)),
+            le-leb 32 (updatesIn (x .plan)) many,
           );
-      holds = λ h. tt;
+      holds = tt;
+      noted = tt;
     }
-
--- The updates after one more without moves.
-updates-stored : (a : Arrays) (cs : List ℕ) (n : ℕ) → n < length cs
-    → table (n + 1) (updateAt (withCounts a (set cs n 0))) ≡ table n (updateAt (withCounts a cs)) ++ ([] ∷ [])
-updates-stored a cs n l =
-    table-more n (updateAt (withCounts a cs)) (updateAt (withCounts a (set cs n 0))) []
-    (λ i h. rw (getD-set-other cs n i 0 0 (omega arith)))
-    (rw (getD-set-same cs n 0 0 l))
-
--- No update has more than 16 moves, with a new one that has few.
-still-filled : (cs : List ℕ) (m c : ℕ) → m < length cs → c ≤ 16 → ((n : ℕ) → n < m → getD cs n 0 ≤ 16)
-    → (n : ℕ) → n < m + 1 → getD (set cs m c) n 0 ≤ 16
-still-filled cs m c l few old n h =
-    elim (decLt n m) [
-      | yes k ↦ rw (getD-set-other cs m n c 0 (omega arith)) (old n k)
-      | no k ↦ let e : n ≡ m = omega arith in rw (e, getD-set-same cs m c 0 l) few
-    ]
 
 -- Nothing is written where there is no move.
 empty-written : (s : ℕ) → length (written s []) ≡ 0
@@ -320,245 +340,275 @@ unfolding written
 empty-written s = refl
 
 -- An update starts without moves.
-pub update-read : (p : Progress) (a : Arrays) (cs : List ℕ) (i : Option Item) → i ≡ some update → p .updates < 32
-    → p .lines < 65536 → Ranged p
-    → LineStep Kind.Update p (withCounts a cs) (withCounts a (set cs (p .updates) 0)) i
-    (LineRead.Read (onward p (p .jobs) (p .blocks) (p .updates + 1) 0 (p .entries)))
-update-read p a cs i e few room r =
+pub update-read : (p : Progress) (t s u e : List ℕ) (i : Option Item) (n : ℕ) → i ≡ some update → updatesIn t ≡ n
+    → n < 32 → p .lines < 65536 → Holds p t
+    → Put (countsAt + n) (0 ∷ []) t s → Put updatesAt ((n + 1) ∷ []) s u
+    → LineStep Kind.Update p (tables t e) (tables u e) i
+    (LineRead.Read (onward p (p .jobs) (p .blocks) 0 (p .entries)))
+update-read p t s u e i n says-it place few room h put put′ =
     record {
       says =
-          λ h form u s.
+          λ form a b.
           rw (
-            e,
-            update-judged form (draftOf p (withCounts a cs)) Kind.Update u s,
-            length-table (p .updates) (updateAt (withCounts a cs)),
-            lt-leb 32 (p .updates) few,
-            updates-stored a cs (p .updates) (omega arith),
-          );
+            says-it,
+            update-judged form (draftOf p t) Kind.Update a b,
+            length-table (updatesIn t) (updateAt t),
+            lt-leb 32 (updatesIn t) (omega (arith, place, few)),
+          )
+          (drafted (p .lines + 1) (p .blocks) (p .entries)
+          (λ k. record { sizes = sizes k; jobs = jobs k; words = words k; updates = updates k }));
       holds =
-          λ h.
           record {
             ranged =
-                still-ranged p (p .jobs) (p .blocks) (p .updates + 1) 0 (p .entries) r room (r .jobs-read)
-                (r .blocks-read) (omega arith) (omega arith) (r .entries-read) (omega arith);
-            roomy = roomy-counts a cs _ (h .roomy) (length-set cs (p .updates) 0);
-            filled = still-filled cs (p .updates) 0 (omega arith) (omega arith) (h .filled);
+                subst (λ (z : Sizes). Ranged next z (updatesIn u)) (sym sizes)
+                (still-ranged p (sizesIn t) (updatesIn t) (p .jobs) (p .blocks) (updatesIn u) 0 (p .entries) r room
+                (r .jobs-read) (r .blocks-read) (omega (arith, count, few)) (omega arith) (r .entries-read)
+                (omega (arith, count, place, r .in-lines)));
+            room = put′ .long ∙ put .long ∙ h .room;
+            filled = filled;
             counted =
-                rw (
-                  updates-stored a cs (p .updates) (omega arith),
-                  last-is (table (p .updates) (updateAt (withCounts a cs))) [],
-                )
-                (sym (empty-written (p .sizes .words)));
+                sym
+                (ap (λ (us : List (List Move)). length (written (sizesIn u .words) (lastOf us))) updates
+                ∙ ap (λ (us : List Move). length (written (sizesIn u .words) us))
+                (last-is (table (updatesIn t) (updateAt t)) [])
+                ∙ empty-written (sizesIn u .words));
           };
+      noted = silent p next e i refl (ap (listed (p .lines + 1)) says-it);
     }
+  where
+    next : Progress
+    next = onward p (p .jobs) (p .blocks) 0 (p .entries)
+
+    r : Ranged p (sizesIn t) (updatesIn t)
+    r = h .ranged
+
+    earlier : (v : ℕ) → v < n → countAt t v ≤ 16
+    earlier v l = h .filled v (omega (arith, place))
+
+    count : updatesIn u ≡ n + 1
+    count = put-there put′ (omega (arith, put .long, h .room))
+
+    sizes : sizesIn u ≡ sizesIn t
+    sizes =
+        sizes-same
+        (same-then (outside put 0 updatesAt (inl (omega arith))) (outside put′ 0 updatesAt (inl (omega arith))))
+
+    jobs : table (p .jobs) (jobAt u) ≡ table (p .jobs) (jobAt t)
+    jobs =
+        jobs-kept h
+        (same-then (outside put cardsAt countsAt (inl (omega arith)))
+        (outside put′ cardsAt countsAt (inr (omega arith))))
+
+    words : part u wordsAt (p .blocks * sizesIn u .words) ≡ part t wordsAt (p .blocks * sizesIn t .words)
+    words =
+        words-kept h sizes
+        (same-then (outside put wordsAt movesAt (inr (omega arith))) (outside put′ wordsAt movesAt (inr (omega arith))))
+
+    updates : table (updatesIn u) (updateAt u) ≡ table (updatesIn t) (updateAt t) ++ ([] ∷ [])
+    updates =
+        ap (λ m. table m (updateAt u)) count
+        ∙ updates-more n (n + 1) few (h .room) earlier put put′
+        ∙ ap (λ m. table m (updateAt t) ++ ([] ∷ [])) (sym place)
+
+    filled : (v : ℕ) → v < updatesIn u → countAt u v ≤ 16
+    filled v l =
+        subst (λ m. m ≤ 16) (sym (outside put′ countsAt wordsAt (inr (omega arith)) .at (countsAt + v) (omega arith)
+        (omega (arith, count, few))))
+        (elim (decLt v n) [
+          | yes k ↦
+              subst (λ m. m ≤ 16) (sym (put .kept (countsAt + v) (λ a b. omega arith))) (earlier v k)
+          | no k ↦
+              let same : v ≡ n = omega (arith, count) in
+              rw (same, put-there put (omega (arith, h .room))) (omega arith)
+        ])
 
 -- The 4,001st entry.
-pub many-entries : (k : Kind) (p : Progress) (a : Arrays) (i : Option Item) (x : Entry) → i ≡ some (entry x)
-    → 4000 ≤ p .entries → LineStep k p a a i (LineRead.Refused Fault.TooMany (p .lines + 1))
-many-entries k p a i x e many =
+pub many-entries : (k : Kind) (p : Progress) (x x′ : Tables) (i : Option Item) (y : Entry) → i ≡ some (entry y)
+    → 4000 ≤ p .entries → LineStep k p x x′ i (LineRead.Refused Fault.TooMany (p .lines + 1))
+many-entries k p x x′ i y e many =
     record {
-      says = λ h form u s. rw (e, entry-judged form (draftOf p a) k u s x, le-leb 4000 (p .entries) many);
-      holds = λ h. tt;
+      says = λ form u s. rw (e, entry-judged form (draftOf p (x .plan)) k u s y, le-leb 4000 (p .entries) many);
+      holds = tt;
+      noted = tt;
     }
 
--- An entry is counted.
-pub entry-read : (k : Kind) (p : Progress) (a : Arrays) (i : Option Item) (x : Entry) → i ≡ some (entry x)
-    → p .entries < 4000 → p .lines < 65536 → Ranged p
-    → LineStep k p a a i
-    (LineRead.Read (onward p (p .jobs) (p .blocks) (p .updates) (p .written) (p .entries + 1)))
-entry-read k p a i x e few room r =
+-- An entry is noted.
+pub entry-read : (k : Kind) (p : Progress) (t e e′ : List ℕ) (i : Option Item) (y : Entry) → i ≡ some (entry y)
+    → p .entries < 4000 → p .lines < 65536 → Holds p t → length e ≡ entryPlaces
+    → Put (entryStart (p .entries)) (notesOf (record { entry = y; line = p .lines + 1 })) e e′
+    → LineStep k p (tables t e) (tables t e′) i
+    (LineRead.Read (onward p (p .jobs) (p .blocks) (p .written) (p .entries + 1)))
+entry-read k p t e e′ i y says-it few room h whole put =
+    let r = h .ranged in
     record {
-      says = λ h form u s. rw (e, entry-judged form (draftOf p a) k u s x, lt-leb 4000 (p .entries) few);
+      says = λ form u s. rw (says-it, entry-judged form (draftOf p t) k u s y, lt-leb 4000 (p .entries) few);
       holds =
-          λ h.
           record {
             ranged =
-                still-ranged p (p .jobs) (p .blocks) (p .updates) (p .written) (p .entries + 1) r room (r .jobs-read)
-                (r .blocks-read) (r .updates-read) (r .blocks-written) (omega arith) (omega arith);
-            roomy = h .roomy;
+                still-ranged p (sizesIn t) (updatesIn t) (p .jobs) (p .blocks) (updatesIn t) (p .written)
+                (p .entries + 1) r room (r .jobs-read) (r .blocks-read) (r .updates-read) (r .blocks-written)
+                (omega arith) (omega arith);
+            room = h .room;
             filled = h .filled;
             counted = h .counted;
+          };
+      noted =
+          record {
+            long = put .long;
+            more =
+                entries-more (p .entries) (record { entry = y; line = p .lines + 1 }) few whole put
+                ∙ ap (λ o. listedIn (p .entries) e ++ listed (p .lines + 1) o) (sym says-it);
           };
     }
 
 -- The last update is the one at the last place.
-last-update : (p : Progress) (a : Arrays) (n : ℕ) → p .updates ≡ n + 1
-    → lastOf (table (p .updates) (updateAt a)) ≡ updateAt a n
-last-update p a n e = rw (e, add-one) (last-is (table n (updateAt a)) (updateAt a n))
+last-update : (t : List ℕ) (n : ℕ) → updatesIn t ≡ n + 1 → lastOf (table (updatesIn t) (updateAt t)) ≡ updateAt t n
+last-update t n e = rw (e, add-one) (last-is (table n (updateAt t)) (updateAt t n))
 
 -- The blocks that the last update writes are counted.
-count-is : (p : Progress) (a : Arrays) (n : ℕ) → p .updates ≡ n + 1 → Holds p a
-    → length (written (p .sizes .words) (updateAt a n)) ≡ p .written
-count-is p a n e h = rw (last-update p a n e) at (sym (h .counted))
+pub count-is : (p : Progress) (t : List ℕ) (n : ℕ) → updatesIn t ≡ n + 1 → Holds p t
+    → length (written (sizesIn t .words) (updateAt t n)) ≡ p .written
+count-is p t n e h = rw (last-update t n e) at (sym (h .counted))
 
 -- The fault of a move behind those of update n, by the rows 5, 9 and 10.
-abbrev pub judgement : Progress → Arrays → Move → ℕ → Option Fault
-judgement p a m n =
-    cond (leb 16 (getD (a .counts) n 0)) (some Fault.TooMany)
-    (cond (someFrom (p .sizes .blocks * p .sizes .words) (named m)) (some Fault.BadWord)
-    (cond (ltb (p .sizes .copies) (length (written (p .sizes .words) (updateAt a n ++ (m ∷ [])))))
+abbrev pub judgement : List ℕ → Move → ℕ → Option Fault
+judgement t m n =
+    cond (leb 16 (countAt t n)) (some Fault.TooMany)
+    (cond (someFrom (sizesIn t .blocks * sizesIn t .words) (named m)) (some Fault.BadWord)
+    (cond (ltb (sizesIn t .copies) (length (written (sizesIn t .words) (updateAt t n ++ (m ∷ [])))))
     (some Fault.TooManyBlocks)
     none))
 
-module _ (p : Progress) (a : Arrays) (m : Move) (n : ℕ) where
+module _ (t : List ℕ) (m : Move) (n : ℕ) where
   -- The 17th move.
-  pub judged-many : 16 ≤ getD (a .counts) n 0 → judgement p a m n ≡ some Fault.TooMany
-  judged-many many = rw (le-leb 16 (getD (a .counts) n 0) many)
+  pub judged-many : 16 ≤ countAt t n → judgement t m n ≡ some Fault.TooMany
+  judged-many many = rw (le-leb 16 (countAt t n) many)
 
-  module _ (few : getD (a .counts) n 0 < 16) where
+  module _ (few : countAt t n < 16) where
     -- A word past the memory.
-    pub judged-past : someFrom (p .sizes .blocks * p .sizes .words) (named m) ≡ true
-        → judgement p a m n ≡ some Fault.BadWord
-    judged-past past = rw (lt-leb 16 (getD (a .counts) n 0) few, past)
+    pub judged-past : someFrom (sizesIn t .blocks * sizesIn t .words) (named m) ≡ true
+        → judgement t m n ≡ some Fault.BadWord
+    judged-past past = rw (lt-leb 16 (countAt t n) few, past)
 
-    module _ (inside : someFrom (p .sizes .blocks * p .sizes .words) (named m) ≡ false) (w : ℕ)
-        (count : length (written (p .sizes .words) (updateAt a n ++ (m ∷ []))) ≡ w) where
+    module _ (inside : someFrom (sizesIn t .blocks * sizesIn t .words) (named m) ≡ false) (w : ℕ)
+        (count : length (written (sizesIn t .words) (updateAt t n ++ (m ∷ []))) ≡ w) where
       -- One block too many.
-      pub judged-blocks : p .sizes .copies < w → judgement p a m n ≡ some Fault.TooManyBlocks
-      judged-blocks more = rw (lt-leb 16 (getD (a .counts) n 0) few, inside, count, lt-ltb (p .sizes .copies) w more)
+      pub judged-blocks : sizesIn t .copies < w → judgement t m n ≡ some Fault.TooManyBlocks
+      judged-blocks more = rw (lt-leb 16 (countAt t n) few, inside, count, lt-ltb (sizesIn t .copies) w more)
 
       -- No fault.
-      pub judged-none : w ≤ p .sizes .copies → judgement p a m n ≡ none
-      judged-none enough = rw (lt-leb 16 (getD (a .counts) n 0) few, inside, count, le-ltb (p .sizes .copies) w enough)
+      pub judged-none : w ≤ sizesIn t .copies → judgement t m n ≡ none
+      judged-none enough = rw (lt-leb 16 (countAt t n) few, inside, count, le-ltb (sizesIn t .copies) w enough)
 
 -- A move that comes after 16, names a word past the memory, or makes the update write too many blocks. The last update
 -- is the one at place n.
-pub bad-move : (k : Kind) (p : Progress) (a a′ : Arrays) (i : Option Item) (m : Move) (n : ℕ) (f : Fault)
-    → i ≡ some (move m) → p .updates ≡ n + 1
-    → (length (written (p .sizes .words) (updateAt a n)) ≡ p .written → judgement p a m n ≡ some f)
-    → LineStep k p a a′ i (LineRead.Refused f (p .lines + 1))
-bad-move k p a a′ i m n f e last bad =
+pub bad-move : (k : Kind) (p : Progress) (x x′ : Tables) (i : Option Item) (m : Move) (n : ℕ) (f : Fault)
+    → i ≡ some (move m) → updatesIn (x .plan) ≡ n + 1 → judgement (x .plan) m n ≡ some f
+    → LineStep k p x x′ i (LineRead.Refused f (p .lines + 1))
+bad-move k p x x′ i m n f e last bad =
     record {
       says =
-          λ h form u s.
+          λ form u s.
           rw (
             e,
-            move-judged form (draftOf p a) k u s m,
-            last-update p a n last,
-            length-table (getD (a .counts) n 0) (λ j. moveAt a (16 * n + j)),
-            bad (count-is p a n last h),
+            move-judged form (draftOf p (x .plan)) k u s m,
+            last-update (x .plan) n last,
+            length-table (countAt (x .plan) n) (λ j. moveAt (x .plan) (16 * n + j)),
+            bad,
           );
-      holds = λ h. tt;
+      holds = tt;
+      noted = tt;
     }
 
--- Numbers stored for a move stand for it.
-stands-for : (m : Move) → moveOf (codeOf m) (target m) (sourceOf m) (amountOf m) ≡ m
-stands-for (Move.Copy d x) = refl
-stands-for (Move.Set d x) = refl
-stands-for (Move.Add d x y) = refl
-
--- The arrays after a move is stored behind the c moves of update n.
-abbrev pub stored : Arrays → ℕ → ℕ → Move → Arrays
-stored a n c m =
-    withMoves a (set (a .counts) n (c + 1)) (set (a .kinds) (16 * n + c) (codeOf m))
-    (set (a .targets) (16 * n + c) (target m))
-    (set (a .sources) (16 * n + c) (sourceOf m))
-    (set (a .amounts) (16 * n + c) (amountOf m))
-
--- The same after a move is stored.
-roomy-stored : (a : Arrays) (n c : ℕ) (m : Move) → Roomy a → Roomy (stored a n c m)
-roomy-stored a n c m r =
-    record {
-      cards = r .cards;
-      priorities = r .priorities;
-      words = r .words;
-      counts = length-set (a .counts) n (c + 1) ∙ r .counts;
-      kinds = length-set (a .kinds) (16 * n + c) (codeOf m) ∙ r .kinds;
-      targets = length-set (a .targets) (16 * n + c) (target m) ∙ r .targets;
-      sources = length-set (a .sources) (16 * n + c) (sourceOf m) ∙ r .sources;
-      amounts = length-set (a .amounts) (16 * n + c) (amountOf m) ∙ r .amounts;
-    }
-
-module _ (a : Arrays) (n c : ℕ) (m : Move) (room : Roomy a) (few : c < 16) (fits : n < 32) where
-  -- The move stands at its place.
-  move-there : moveAt (stored a n c m) (16 * n + c) ≡ m
-  move-there =
-      rw (
-        getD-set-same (a .kinds) (16 * n + c) (codeOf m) 0 (omega arith),
-        getD-set-same (a .targets) (16 * n + c) (target m) 0 (omega arith),
-        getD-set-same (a .sources) (16 * n + c) (sourceOf m) 0 (omega arith),
-        getD-set-same (a .amounts) (16 * n + c) (amountOf m) 0 (omega arith),
-      )
-      (stands-for m)
-
-  -- Every other move is as before.
-  move-elsewhere : (i : ℕ) → (i ≡ 16 * n + c → ⊥) → moveAt a i ≡ moveAt (stored a n c m) i
-  move-elsewhere i ne =
-      rw (
-        getD-set-other (a .kinds) (16 * n + c) i (codeOf m) 0 ne,
-        getD-set-other (a .targets) (16 * n + c) i (target m) 0 ne,
-        getD-set-other (a .sources) (16 * n + c) i (sourceOf m) 0 ne,
-        getD-set-other (a .amounts) (16 * n + c) i (amountOf m) 0 ne,
-      )
-
-  -- The updates after the move, where those before it have at most 16 moves each.
-  moves-stored : getD (a .counts) n 0 ≡ c → ((u : ℕ) → u < n → getD (a .counts) u 0 ≤ 16)
-      → table (n + 1) (updateAt (stored a n c m)) ≡ table n (updateAt a) ++ ((updateAt a n ++ (m ∷ [])) ∷ [])
-  moves-stored e filled =
-      table-more n (updateAt a) (updateAt (stored a n c m)) (updateAt a n ++ (m ∷ []))
-      (λ u l.
-      let most = filled u l in
-      rw (getD-set-other (a .counts) n u (c + 1) 0 (omega arith))
-      (table-same (getD (a .counts) u 0) (λ i. moveAt a (16 * u + i)) (λ i. moveAt (stored a n c m) (16 * u + i))
-      (λ i k. move-elsewhere (16 * u + i) (λ q. omega arith))))
-      (rw (getD-set-same (a .counts) n (c + 1) 0 (omega arith), e)
-      (table-more c (λ i. moveAt a (16 * n + i)) (λ i. moveAt (stored a n c m) (16 * n + i)) m
-      (λ i k. move-elsewhere (16 * n + i) (λ q. omega arith))
-      move-there))
-
-  -- The same by the definition of a move more in the last update.
-  updates-moved : (u : ℕ) → u ≡ n + 1 → getD (a .counts) n 0 ≡ c → ((v : ℕ) → v < n → getD (a .counts) v 0 ≤ 16)
-      → table u (updateAt (stored a n c m)) ≡ addToLast m (table u (updateAt a))
-  updates-moved u last e filled =
-      rw (last, moves-stored e filled, add-one) (sym (added-last m (table n (updateAt a)) (updateAt a n)))
-
--- A move is stored behind those of the last update.
-pub move-read : (k : Kind) (p : Progress) (a : Arrays) (i : Option Item) (m : Move) (n c w : ℕ) → i ≡ some (move m)
-    → p .updates ≡ n + 1 → getD (a .counts) n 0 ≡ c → c < 16 → w ≤ 8 → p .lines < 65536 → Ranged p
-    → (length (written (p .sizes .words) (updateAt a n)) ≡ p .written
-    → (judgement p a m n ≡ none) × (w ≡ length (written (p .sizes .words) (updateAt a n ++ (m ∷ [])))))
-    → LineStep k p a (stored a n c m) i
-    (LineRead.Read (onward p (p .jobs) (p .blocks) (p .updates) w (p .entries)))
-move-read k p a i m n c w e last count few small room r good =
+-- A move is put behind those of the last update, which then writes w blocks.
+pub move-read : (k : Kind) (p : Progress) (t s u e : List ℕ) (i : Option Item) (m : Move) (n c w : ℕ)
+    → i ≡ some (move m) → updatesIn t ≡ n + 1 → countAt t n ≡ c → c < 16 → w ≤ 8 → p .lines < 65536 → Holds p t
+    → judgement t m n ≡ none → length (written (sizesIn t .words) (updateAt t n ++ (m ∷ []))) ≡ w
+    → Put (moveStart (16 * n + c)) (numbersOf m) t s → Put (countsAt + n) ((c + 1) ∷ []) s u
+    → LineStep k p (tables t e) (tables u e) i
+    (LineRead.Read (onward p (p .jobs) (p .blocks) w (p .entries)))
+move-read k p t s u e i m n c w says-it place count few small room h good blocks put put′ =
     record {
       says =
-          λ h form u s.
+          λ form a b.
           rw (
-            e,
-            move-judged form (draftOf p a) k u s m,
-            last-update p a n last,
-            length-table (getD (a .counts) n 0) (λ j. moveAt a (16 * n + j)),
-            good (count-is p a n last h) .0,
-            updates-moved a n c m (h .roomy) few (omega arith) (p .updates) last count
-                (λ v l. h .filled v (omega arith)),
-          );
+            says-it,
+            move-judged form (draftOf p t) k a b m,
+            last-update t n place,
+            length-table (countAt t n) (λ j. moveAt t (16 * n + j)),
+            good,
+          )
+          (drafted (p .lines + 1) (p .blocks) (p .entries)
+          (λ k. record { sizes = sizes k; jobs = jobs k; words = words k; updates = updates k }));
       holds =
-          λ h.
           record {
             ranged =
-                still-ranged p (p .jobs) (p .blocks) (p .updates) w (p .entries) r room (r .jobs-read)
-                (r .blocks-read) (r .updates-read) small (r .entries-read) (omega arith);
-            roomy = roomy-stored a n c m (h .roomy);
-            filled =
-                λ v l.
-                still-filled (a .counts) n (c + 1) (omega arith) (omega arith) (λ x y. h .filled x (omega arith)) v
-                (omega arith);
+                ranged-kept h first next
+                (still-ranged p (sizesIn t) (updatesIn t) (p .jobs) (p .blocks) (updatesIn t) w (p .entries) r room
+                (r .jobs-read) (r .blocks-read) (r .updates-read) small (r .entries-read) (omega (arith, r .in-lines)));
+            room = put′ .long ∙ put .long ∙ h .room;
+            filled = filled;
             counted =
-                rw (
-                  last,
-                  moves-stored a n c m (h .roomy) few (omega arith) count (λ v l. h .filled v (omega arith)),
-                  last-is (table n (updateAt a)) (updateAt a n ++ (m ∷ [])),
-                )
-                (good (count-is p a n last h) .1);
+                sym
+                ((λ j. length (written (sizes j .words) (lastOf (now-updates j))))
+                ∙ ap (λ (us : List Move). length (written (sizesIn t .words) us))
+                (last-is (table n (updateAt t)) (updateAt t n ++ (m ∷ [])))
+                ∙ blocks);
           };
+      noted = silent p next e i refl (ap (listed (p .lines + 1)) says-it);
     }
+  where
+    next : Progress
+    next = onward p (p .jobs) (p .blocks) w (p .entries)
 
--- The same, with the arrays as a call has left them.
-pub move-read-into : (k : Kind) (p : Progress) (a : Arrays) (i : Option Item) (m : Move) (n c w : ℕ)
-    (ks ts ss ns : List ℕ) → ks ≡ set (a .kinds) (16 * n + c) (codeOf m) → ts ≡ set (a .targets) (16 * n + c) (target m)
-    → ss ≡ set (a .sources) (16 * n + c) (sourceOf m) → ns ≡ set (a .amounts) (16 * n + c) (amountOf m)
-    → LineStep k p a (stored a n c m) i
-    (LineRead.Read (onward p (p .jobs) (p .blocks) (p .updates) w (p .entries)))
-    → LineStep k p a (withMoves a (set (a .counts) n (c + 1)) ks ts ss ns) i
-    (LineRead.Read (onward p (p .jobs) (p .blocks) (p .updates) w (p .entries)))
-move-read-into k p a i m n c w ks ts ss ns hk ht hs hn step = rw (hk, ht, hs, hn) step
+    r : Ranged p (sizesIn t) (updatesIn t)
+    r = h .ranged
+
+    low : n < 32
+    low = omega (arith, place, r .updates-read)
+
+    earlier : (v : ℕ) → v < n → countAt t v ≤ 16
+    earlier v l = h .filled v (omega (arith, place))
+
+    first : Same 0 cardsAt t u
+    first = same-then (outside put 0 cardsAt (inl (omega arith))) (outside put′ 0 cardsAt (inl (omega arith)))
+
+    sizes : sizesIn u ≡ sizesIn t
+    sizes = sizes-kept h first
+
+    jobs : table (p .jobs) (jobAt u) ≡ table (p .jobs) (jobAt t)
+    jobs =
+        jobs-kept h
+        (same-then (outside put cardsAt countsAt (inl (omega arith)))
+        (outside put′ cardsAt countsAt (inl (omega arith))))
+
+    words : part u wordsAt (p .blocks * sizesIn u .words) ≡ part t wordsAt (p .blocks * sizesIn t .words)
+    words =
+        words-kept h sizes
+        (same-then (outside put wordsAt movesAt (inl (omega arith)))
+        (outside put′ wordsAt movesAt (inr (omega (arith, low)))))
+
+    now-updates :
+        table (updatesIn u) (updateAt u) ≡ table n (updateAt t) ++ ((updateAt t n ++ (m ∷ [])) ∷ [])
+    now-updates =
+        ap (λ l. table l (updateAt u)) (count-kept h first ∙ place)
+        ∙ moves-more n c m low few (h .room) earlier count put put′
+
+    updates : table (updatesIn u) (updateAt u) ≡ addToLast m (table (updatesIn t) (updateAt t))
+    updates =
+        now-updates
+        ∙ sym
+        (ap (λ l. addToLast m (table l (updateAt t))) (place ∙ add-one n)
+        ∙ added-last m (table n (updateAt t)) (updateAt t n))
+
+    filled : (v : ℕ) → v < updatesIn u → countAt u v ≤ 16
+    filled v l =
+        elim (decLt v n) [
+          | yes k ↦
+              subst (λ l. l ≤ 16)
+              (sym (put′ .kept (countsAt + v) (λ a b. omega arith) ∙ put .kept (countsAt + v) (λ a b. omega arith)))
+              (earlier v k)
+          | no k ↦
+              let same : v ≡ n = omega (arith, count-kept h first, place) in
+              rw (same, put-there put′ (omega (arith, put .long, h .room, low))) (omega arith)
+        ]

@@ -6,8 +6,7 @@ use mathlib.Core.List.{List, [], _∷_, _++_}
 use native.Mathlib.Numerals.{add-one}
 use native.Mathlib.Decide.{decLt}
 use native.Mathlib.Omega.{arith}
-use Rattle.format.specs.Plan.{any}
-use Rattle.format.specs.Stored.{table}
+use Rattle.format.specs.Plan.{any, table}
 
 module _ {A : Type 0} (P : A → Bool) where
   -- A test of a list with one more element.

@@ -4,8 +4,7 @@ use mathlib.Core.Path.{_≡_, refl, ap}
 use mathlib.Core.Bool.{Bool}
 use mathlib.Core.List.{List, [], _∷_, _++_}
 use native.Mathlib.Omega.{arith}
-use Rattle.format.specs.Plan.{any}
-use Rattle.format.specs.Stored.{table}
+use Rattle.format.specs.Plan.{any, table}
 use Rattle.format.specs.declared.Move.{Move}
 use Rattle.format.specs.Faults.{lastOf}
 use Rattle.format.specs.Reading.{addToLast}

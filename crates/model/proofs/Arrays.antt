@@ -26,7 +26,7 @@ use lib.Seq.{
 }
 use borrow.Author.Tests.{ltb-true, ltb-false, lt-ltb}
 use Rattle.text.proofs.Cases.{by-test}
-use Rattle.format.specs.Stored.{table}
+use Rattle.format.specs.Plan.{table}
 use Rattle.format.proofs.Tables.{length-table, getD-table}
 use Rattle.model.specs.Steps.{inFirstPlaces}
 use Rattle.model.proofs.Update.{upd, upd-elim}

@@ -20,7 +20,7 @@ use lib.Dec.{eqb, ltb}
 use lib.IntN.{ℤ, pos, negsuc}
 use lib.ListN.{length, getD}
 use borrow.Author.Tests.{eqb-true, eqb-false, ltb-true, ltb-false, lt-ltb, not-true}
-use Rattle.format.specs.Plan.{Plan}
+use Rattle.format.specs.Plan.{Plan, table}
 use Rattle.format.specs.Sound.{Sound}
 use Rattle.model.specs.declared.Stage.{Stage}
 use Rattle.model.specs.declared.Place.{Place}
@@ -73,7 +73,6 @@ use Rattle.model.proofs.View.{
   decided≢finished,
 }
 use Rattle.model.proofs.Sizes.{Roomy, Fits}
-use Rattle.format.specs.Stored.{table}
 use Rattle.format.proofs.Tables.{length-table}
 use Rattle.model.proofs.Tests.{test, store-elim, and-l, and-r, or-l, or-r, same-version, failed, stale}
 use Rattle.model.proofs.SmallSteps.{

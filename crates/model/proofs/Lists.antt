@@ -21,9 +21,8 @@ use lib.Seq.{paste, length-paste}
 use borrow.Author.Tests.{eqb-true, eq-eqb, ltb-true, ltb-false, lt-ltb, le-ltb, leb-false}
 use Rattle.text.proofs.Cases.{by-test, both, neither}
 use Rattle.format.specs.declared.Entry.{Entry}
-use Rattle.format.specs.Plan.{Plan, jobIn}
+use Rattle.format.specs.Plan.{Plan, jobIn, table}
 use Rattle.format.proofs.Tables.{length-table, getD-table}
-use Rattle.format.specs.Stored.{table}
 use Rattle.format.specs.Sound.{Sound}
 use Rattle.model.specs.declared.Place.{Place}
 use Rattle.model.specs.declared.Working.{Working}

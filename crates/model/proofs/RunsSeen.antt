@@ -20,8 +20,7 @@ use lib.Seq.{drop-cons, drop-nil}
 use borrow.Author.Tests.{ltb-true, ltb-false}
 use Rattle.text.proofs.Cases.{by-test}
 use Rattle.format.specs.declared.Move.{Move}
-use Rattle.format.specs.Plan.{Plan}
-use Rattle.format.specs.Stored.{table}
+use Rattle.format.specs.Plan.{Plan, table}
 use Rattle.format.proofs.Tables.{table-more}
 use Rattle.model.specs.declared.Stage.{Stage}
 use Rattle.model.specs.declared.Place.{Place}

@@ -6,8 +6,7 @@ use mathlib.Core.List.{List, [], _∷_, _++_}
 use lib.Dec.{eqb}
 use lib.ListN.{getD, drop}
 use Rattle.format.specs.declared.Move.{Move}
-use Rattle.format.specs.Plan.{Plan, jobIn}
-use Rattle.format.specs.Stored.{table}
+use Rattle.format.specs.Plan.{Plan, jobIn, table}
 use Rattle.model.specs.declared.Stage.{Stage}
 use Rattle.model.specs.declared.Working.{Working}
 use Rattle.model.specs.Moves.{Access, read, write, accesses, written, moves, move, access}

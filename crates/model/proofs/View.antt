@@ -10,8 +10,7 @@ use lib.IntN.{ℤ, pos, negsuc}
 use lib.ListN.{getD}
 use native.Mathlib.Omega.{arith}
 use borrow.Author.Tests.{eq-eqb, ne-eqb, eqb-true}
-use Rattle.format.specs.Plan.{Plan}
-use Rattle.format.specs.Stored.{table}
+use Rattle.format.specs.Plan.{Plan, table}
 use Rattle.model.specs.declared.Version.{Version}
 use Rattle.model.specs.declared.Working.{Working}
 use Rattle.model.specs.declared.Store.{Store}

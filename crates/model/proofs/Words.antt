@@ -26,9 +26,8 @@ use native.Mathlib.Nat.{
 use borrow.Author.Tests.{ltb-true, lt-ltb, leb-false, eq-eqb, ne-eqb}
 use Rattle.text.proofs.Cases.{by-test, neither}
 use Rattle.format.specs.declared.Move.{Move}
-use Rattle.format.specs.Plan.{Plan, isIn, including, named, written, writtenAfter}
+use Rattle.format.specs.Plan.{Plan, isIn, including, named, written, writtenAfter, table}
 use Rattle.format.specs.Faults.{someFrom}
-use Rattle.format.specs.Stored.{table}
 use Rattle.format.proofs.Tables.{table-same}
 use Rattle.format.specs.Sound.{Sound}
 use Rattle.model.specs.declared.Stage.{Stage}

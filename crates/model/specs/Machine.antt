@@ -6,8 +6,7 @@ use mathlib.Core.List.{List, []}
 use lib.IntN.{pos}
 use lib.ListN.{length, getD, set, drop, replicate}
 use lib.Seq.{paste}
-use Rattle.format.specs.Plan.{Plan}
-use Rattle.format.specs.Stored.{table}
+use Rattle.format.specs.Plan.{Plan, table}
 use Rattle.model.specs.declared.Working.{Working}
 use Rattle.model.specs.declared.Cells.{Cells}
 use Rattle.model.specs.declared.Store.{Store}

@@ -15,36 +15,37 @@ use Rattle.text.proofs.Lines.{fields-first}
 use Rattle.format.specs.declared.Fault.{Fault}
 use Rattle.format.specs.declared.Form.{Form}
 use Rattle.format.specs.declared.Kind.{Kind}
-use Rattle.format.specs.declared.Progress.{Progress}
 use Rattle.format.specs.Kinds.{kindOf}
-use Rattle.format.specs.Items.{Item, itemOf, count, recordOf}
+use Rattle.format.specs.Items.{Item, itemOf, count, Record, recordOf}
 use Rattle.format.specs.Faults.{isUnknown, stands, laidOut, lacksJobs, lacksBlocks}
-use Rattle.format.specs.Stored.{Arrays, draftOf, table, updateAt}
+use Rattle.format.specs.Plan.{table}
+use Rattle.layout.specs.PlanTable.{sizesIn, updatesIn, updateAt}
+use Rattle.line.specs.declared.Progress.{Progress}
 use Rattle.line.specs.declared.LineRead.{LineRead}
-use Rattle.line.specs.Steps.{LineStep, LineDone, Standing}
+use Rattle.line.specs.Steps.{Tables, draftOf, NotedAfter, LineStep, LineDone, Standing}
 use Rattle.format.proofs.Tables.{length-table}
 use Rattle.line.proofs.Tables.{lacks-jobs}
 
 -- The kind is the one that was met.
-pub at-kind : (k met : Kind) (s : ℕ) (fs : List (List ℕ)) (p : Progress) (a a′ : Arrays) (r : LineRead) → k ≡ met
-    → LineStep met p a a′ (itemOf met (numbers (count s met) fs)) r
-    → LineStep k p a a′ (itemOf k (numbers (count s k) fs)) r
-at-kind k met s fs p a a′ r e step =
-    subst (λ (x : Kind). LineStep x p a a′ (itemOf x (numbers (count s x) fs)) r) (sym e) step
+pub at-kind : (k met : Kind) (s : ℕ) (fs : List (List ℕ)) (p : Progress) (x x′ : Tables) (r : LineRead) → k ≡ met
+    → LineStep met p x x′ (itemOf met (numbers (count s met) fs)) r
+    → LineStep k p x x′ (itemOf k (numbers (count s k) fs)) r
+at-kind k met s fs p x x′ r e step =
+    subst (λ (y : Kind). LineStep y p x x′ (itemOf y (numbers (count s y) fs)) r) (sym e) step
 
 -- The line says what was read of it.
-pub at-item : (k : Kind) (p : Progress) (a a′ : Arrays) (i j : Option Item) (r : LineRead) → i ≡ j
-    → LineStep k p a a′ i r → LineStep k p a a′ j r
-at-item k p a a′ i j r e step = subst (λ (x : Option Item). LineStep k p a a′ x r) e step
+pub at-item : (k : Kind) (p : Progress) (x x′ : Tables) (i j : Option Item) (r : LineRead) → i ≡ j
+    → LineStep k p x x′ i r → LineStep k p x x′ j r
+at-item k p x x′ i j r e step = subst (λ (y : Option Item). LineStep k p x x′ y r) e step
 
 -- Of an unknown kind nothing is promised here.
-pub at-unknown : (p : Progress) (a a′ : Arrays) (i : Option Item) (f : Fault) (n : ℕ)
-    → LineStep Kind.Unknown p a a′ i (LineRead.Refused f n)
-at-unknown p a a′ i f n = record { says = λ h form u s. absurd (false≢true (sym u)); holds = λ h. tt }
+pub at-unknown : (p : Progress) (x x′ : Tables) (i : Option Item) (f : Fault) (n : ℕ)
+    → LineStep Kind.Unknown p x x′ i (LineRead.Refused f n)
+at-unknown p x x′ i f n = record { says = λ form u s. absurd (false≢true (sym u)); holds = tt; noted = tt }
 
 -- What the numbers are at the kind that was met.
-pub standing-at : (p : Progress) (k met : Kind) → k ≡ met → Standing p k → Standing p met
-standing-at p k met e s = subst (λ (x : Kind). Standing p x) e s
+pub standing-at : (p : Progress) (t : List ℕ) (k met : Kind) → k ≡ met → Standing p t k → Standing p t met
+standing-at p t k met e s = subst (λ (x : Kind). Standing p t x) e s
 
 -- A line taken apart at its first tab.
 record-is : (s : ℕ) (line : List ℕ) (k : Kind) → kindOf (take (placeOf 9 line 0) line) ≡ k
@@ -57,48 +58,55 @@ record-is : (s : ℕ) (line : List ℕ) (k : Kind) → kindOf (take (placeOf 9 l
 unfolding recordOf
 record-is s line k e = rw (fields-first line, e)
 
-module _ (form : Form) (p : Progress) (a a′ : Arrays) (line : List ℕ) (k : Kind)
+module _ (form : Form) (p : Progress) (x x′ : Tables) (line : List ℕ) (k : Kind)
     (named : kindOf (take (placeOf 9 line 0) line) ≡ k) where
+  -- The words of a block, by the plan's table.
+  abbrev size : ℕ
+  size = sizesIn (x .plan) .words
+
   -- A line whose first field is unknown.
-  pub done-unknown : isUnknown k ≡ true → LineDone form p a a′ line (LineRead.Refused Fault.Unknown (p .lines + 1))
-  done-unknown u =
-      record { says = λ h. rw (record-is (p .sizes .words) line k named, u); holds = λ h. tt }
+  pub done-unknown : isUnknown k ≡ true → LineDone form p x x′ line (LineRead.Refused Fault.Unknown (p .lines + 1))
+  done-unknown u = record { says = rw (record-is size line k named, u); holds = tt; noted = tt }
 
   module _ (known : isUnknown k ≡ false) where
     -- A line that cannot stand where it does.
-    pub done-misplaced : stands form (draftOf p a) k ≡ false
-        → LineDone form p a a′ line (LineRead.Refused Fault.Misplaced (p .lines + 1))
-    done-misplaced s =
-        record { says = λ h. rw (record-is (p .sizes .words) line k named, known, s); holds = λ h. tt }
+    pub done-misplaced : stands form (draftOf p (x .plan)) k ≡ false
+        → LineDone form p x x′ line (LineRead.Refused Fault.Misplaced (p .lines + 1))
+    done-misplaced s = record { says = rw (record-is size line k named, known, s); holds = tt; noted = tt }
 
     -- A line that can, whose first field ends at place n.
-    pub done-read : (r : LineRead) (n : ℕ) → n ≡ placeOf 9 line 0 → stands form (draftOf p a) k ≡ true
-        → LineStep k p a a′ (itemOf k (numbers (count (p .sizes .words) k) (fieldsAt line (n + 1)))) r
-        → LineDone form p a a′ line r
+    pub done-read : (r : LineRead) (n : ℕ) → n ≡ placeOf 9 line 0 → stands form (draftOf p (x .plan)) k ≡ true
+        → LineStep k p x x′ (itemOf k (numbers (count size k) (fieldsAt line (n + 1)))) r
+        → LineDone form p x x′ line r
     done-read r n e s step =
         record {
-          says = λ h. rw (record-is (p .sizes .words) line k named, ← e) (step .says h form known s);
+          says = rw (record-is size line k named, ← e) (step .says form known s);
           holds = step .holds;
+          noted =
+              subst (λ (y : Record). NotedAfter p r (x .entries) (x′ .entries) (y .item))
+              (sym (record-is size line k named))
+              (rw e at (step .noted));
         }
 
 -- A move stands behind an update.
-some-update : (p : Progress) (a : Arrays) (t : Bool) → (t && ltb 0 (length (table (p .updates) (updateAt a)))) ≡ true
-    → 0 < p .updates
-some-update p a t e =
-    rw (length-table (p .updates) (updateAt a)) at
-    (ltb-true 0 (length (table (p .updates) (updateAt a))) (both t _ e .1))
+some-update : (t : List ℕ) (b : Bool) → (b && ltb 0 (length (table (updatesIn t) (updateAt t)))) ≡ true
+    → 0 < updatesIn t
+some-update t b e =
+    rw (length-table (updatesIn t) (updateAt t)) at
+    (ltb-true 0 (length (table (updatesIn t) (updateAt t))) (both b _ e .1))
 
 -- What a kind that can stand here says of the numbers.
-pub standing : (form : Form) (p : Progress) (a : Arrays) (k : Kind) → stands form (draftOf p a) k ≡ true → Standing p k
-standing form p a Kind.Plan e = eqb-true (p .lines) 0 e
-standing form p a Kind.Job e = ltb-true (p .jobs) (p .sizes .jobs) (sym (lacks-jobs p a) ∙ e)
-standing form p a Kind.Block e =
-    ltb-true (p .blocks) (p .sizes .blocks)
-    (both (not (lacksJobs (draftOf p a))) (lacksBlocks (draftOf p a)) e .1)
-standing form p a Kind.Update e = tt
-standing form p a Kind.Copy e = some-update p a (laidOut (draftOf p a) && eqb (p .entries) 0) e
-standing form p a Kind.Set e = some-update p a (laidOut (draftOf p a) && eqb (p .entries) 0) e
-standing form p a Kind.Add e = some-update p a (laidOut (draftOf p a) && eqb (p .entries) 0) e
-standing form p a Kind.Call e = tt
-standing form p a Kind.Step e = tt
-standing form p a Kind.Unknown e = tt
+pub standing : (form : Form) (p : Progress) (t : List ℕ) (k : Kind) → stands form (draftOf p t) k ≡ true
+    → Standing p t k
+standing form p t Kind.Plan e = eqb-true (p .lines) 0 e
+standing form p t Kind.Job e = ltb-true (p .jobs) (sizesIn t .jobs) (sym (lacks-jobs p t) ∙ e)
+standing form p t Kind.Block e =
+    ltb-true (p .blocks) (sizesIn t .blocks)
+    (both (not (lacksJobs (draftOf p t))) (lacksBlocks (draftOf p t)) e .1)
+standing form p t Kind.Update e = tt
+standing form p t Kind.Copy e = some-update t (laidOut (draftOf p t) && eqb (p .entries) 0) e
+standing form p t Kind.Set e = some-update t (laidOut (draftOf p t) && eqb (p .entries) 0) e
+standing form p t Kind.Add e = some-update t (laidOut (draftOf p t) && eqb (p .entries) 0) e
+standing form p t Kind.Call e = tt
+standing form p t Kind.Step e = tt
+standing form p t Kind.Unknown e = tt

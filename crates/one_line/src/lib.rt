@@ -5,12 +5,16 @@ ghost use lib.ListN.{length};
 ghost use Rattle.text.specs.Lines.{numbers};
 ghost use Rattle.text.specs.Places.{fieldsAt};
 ghost use Rattle.format.specs.Items.{itemOf, count};
-ghost use Rattle.line.specs.Steps.{arrays, LineStep, LineDone, Standing, Ranged};
+ghost use Rattle.layout.specs.PlanTable.{sizesIn};
+ghost use Rattle.layout.specs.EntryTable.{entryPlaces};
+ghost use Rattle.line.specs.Steps.{tables, Holds, LineStep, LineDone, Standing};
 use format::Fault;
 use format::Form;
 use format::Kind;
-use format::Progress;
+use layout::ENTRY_PLACES;
+use layout::PLAN_PLACES;
 use line::LineRead;
+use line::Progress;
 
 // A line of a known kind that can stand where it does.
 fn read_kind(
@@ -18,60 +22,27 @@ fn read_kind(
     line: &[u8],
     at: usize,
     p: Progress,
-    cards: &mut [u8; 16],
-    priorities: &mut [u8; 16],
-    words: &mut [u32],
-    counts: &mut [u8; 32],
-    kinds: &mut [u8; 512],
-    targets: &mut [u8; 512],
-    sources: &mut [u8; 512],
-    amounts: &mut [u32; 512],
+    plan: &mut [u32; PLAN_PLACES],
+    entries: &mut [u32; ENTRY_PLACES],
 ) -> LineRead
-    requires { ⌜ (at ≤ length (now line) + 1) × (Standing p kind × ((p .lines < 65536) × Ranged p)) ⌝ }
-    requires { ⌜ length (now words) ≡ 256 ⌝ }
+    requires { ⌜ (at ≤ length (now line) + 1) × (Standing p (now plan) kind × (p .lines < 65536)) ⌝ }
+    requires { ⌜ Holds p (now plan) × (length (now entries) ≡ entryPlaces) ⌝ }
     ensures { λ r. ⌜ LineStep kind p
-        (arrays (now (cards .entry)) (now (priorities .entry)) (now (words .entry)) (now (counts .entry))
-        (now (kinds .entry)) (now (targets .entry)) (now (sources .entry)) (now (amounts .entry)))
-        (arrays (now (cards .exit)) (now (priorities .exit)) (now (words .exit)) (now (counts .exit))
-        (now (kinds .exit)) (now (targets .exit)) (now (sources .exit)) (now (amounts .exit)))
-        (itemOf kind (numbers (count (p .sizes .words) kind) (fieldsAt (now (line .entry)) at)))
+        (tables (now (plan .entry)) (now (entries .entry)))
+        (tables (now (plan .exit)) (now (entries .exit)))
+        (itemOf kind (numbers (count (sizesIn (now (plan .entry)) .words) kind) (fieldsAt (now (line .entry)) at)))
         r ⌝ }
-    ensures { λ r. ⌜ length (now (words .exit)) ≡ 256 ⌝ }
 {
     match kind {
-        Kind::Plan => plan_lines::plan_line(line, at, p),
-        Kind::Job => plan_lines::job_line(line, at, p, cards, priorities),
-        Kind::Block => plan_lines::block_line(line, at, p, words),
-        Kind::Update => moves::update_line(line, at, p, counts),
-        Kind::Copy => moves::move_line(
-            moves::copy_of(line, at),
-            p,
-            counts,
-            kinds,
-            targets,
-            sources,
-            amounts,
-        ),
-        Kind::Set => moves::move_line(
-            moves::set_of(line, at),
-            p,
-            counts,
-            kinds,
-            targets,
-            sources,
-            amounts,
-        ),
-        Kind::Add => moves::move_line(
-            moves::add_of(line, at),
-            p,
-            counts,
-            kinds,
-            targets,
-            sources,
-            amounts,
-        ),
-        Kind::Call => plan_lines::entry_line(plan_lines::call_of(line, at), p),
-        Kind::Step => plan_lines::entry_line(plan_lines::step_of(line, at), p),
+        Kind::Plan => plan_lines::plan_line(line, at, p, plan),
+        Kind::Job => plan_lines::job_line(line, at, p, plan),
+        Kind::Block => plan_lines::block_line(line, at, p, plan),
+        Kind::Update => moves::update_line(line, at, p, plan),
+        Kind::Copy => moves::move_line(moves::copy_of(line, at), p, plan),
+        Kind::Set => moves::move_line(moves::set_of(line, at), p, plan),
+        Kind::Add => moves::move_line(moves::add_of(line, at), p, plan),
+        Kind::Call => plan_lines::entry_line(plan_lines::call_of(line, at), p, entries),
+        Kind::Step => plan_lines::entry_line(plan_lines::step_of(line, at), p, entries),
         Kind::Unknown => LineRead::Refused(Fault::Unknown, p.lines + 1),
     }
 }
@@ -81,24 +52,15 @@ pub fn read_line(
     line: &[u8],
     form: Form,
     p: Progress,
-    cards: &mut [u8; 16],
-    priorities: &mut [u8; 16],
-    words: &mut [u32],
-    counts: &mut [u8; 32],
-    kinds: &mut [u8; 512],
-    targets: &mut [u8; 512],
-    sources: &mut [u8; 512],
-    amounts: &mut [u32; 512],
+    plan: &mut [u32; PLAN_PLACES],
+    entries: &mut [u32; ENTRY_PLACES],
 ) -> LineRead
-    requires { ⌜ (p .lines < 65536) × (Ranged p × (length (now words) ≡ 256)) ⌝ }
+    requires { ⌜ (p .lines < 65536) × (Holds p (now plan) × (length (now entries) ≡ entryPlaces)) ⌝ }
     ensures { λ r. ⌜ LineDone form p
-        (arrays (now (cards .entry)) (now (priorities .entry)) (now (words .entry)) (now (counts .entry))
-        (now (kinds .entry)) (now (targets .entry)) (now (sources .entry)) (now (amounts .entry)))
-        (arrays (now (cards .exit)) (now (priorities .exit)) (now (words .exit)) (now (counts .exit))
-        (now (kinds .exit)) (now (targets .exit)) (now (sources .exit)) (now (amounts .exit)))
+        (tables (now (plan .entry)) (now (entries .entry)))
+        (tables (now (plan .exit)) (now (entries .exit)))
         (now (line .entry))
         r ⌝ }
-    ensures { λ r. ⌜ length (now (words .exit)) ≡ 256 ⌝ }
 {
     let number = p.lines + 1;
     let end = text::find(line, 0, 9);
@@ -106,21 +68,8 @@ pub fn read_line(
     if kinds::is_unknown(kind) {
         return LineRead::Refused(Fault::Unknown, number);
     }
-    if kinds::can_stand(form, p, kind) {
-        return read_kind(
-            kind,
-            line,
-            end + 1,
-            p,
-            cards,
-            priorities,
-            words,
-            counts,
-            kinds,
-            targets,
-            sources,
-            amounts,
-        );
+    if kinds::can_stand(form, p, plan, kind) {
+        return read_kind(kind, line, end + 1, p, plan, entries);
     }
     LineRead::Refused(Fault::Misplaced, number)
 }

@@ -5,7 +5,7 @@ use mathlib.Core.List.{List, [], _∷_, _++_, append-assoc, append-nil}
 use native.Mathlib.Numerals.{add-one}
 use lib.ListN.{length, set, drop}
 use lib.Seq.{drop-cons, drop-length, set-at}
-use Rattle.format.specs.Stored.{table}
+use Rattle.format.specs.Plan.{table}
 use Rattle.format.proofs.Tables.{length-table}
 
 -- The first n places of l are filled.

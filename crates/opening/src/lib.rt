@@ -3,11 +3,13 @@ ghost use mathlib.Core.Path.{_≡_};
 ghost use Prim.Native.Nat.{ℕ, _≤_, _<_, _+_, _*_};
 ghost use lib.ListN.{length};
 ghost use lib.Seq.{paste};
-ghost use Rattle.format.specs.Plan.{Plan};
-ghost use Rattle.format.specs.Stored.{table};
+ghost use Rattle.format.specs.Plan.{Plan, table};
+ghost use Rattle.layout.specs.Puts.{part};
+ghost use Rattle.layout.specs.PlanTable.{wordsAt};
 ghost use Rattle.model.specs.Working.{opening};
 ghost use Rattle.model.specs.Machine.{openingOf};
 use format::Sizes;
+use layout::PLAN_PLACES;
 use model::Cells;
 use model::Place;
 use model::Version;
@@ -107,15 +109,15 @@ pub fn cells(sizes: Sizes) -> Cells
     }
 }
 
-// The opening memory is put into the store, from a place on.
-pub fn put_words(store: &mut [u32], at: usize, words: &[u32])
-    requires { ⌜ at + length (now words) ≤ length (now store) ⌝ }
-    ensures { λ _. ⌜ now (store .exit) ≡ paste (now (store .entry)) at (now (words .entry)) (length (now
-        (words .entry))) ⌝ }
+// The first n opening words are put into the store, from a place on.
+pub fn put_words(store: &mut [u32], at: usize, plan: &[u32; PLAN_PLACES], n: usize)
+    requires { ⌜ (at + n ≤ length (now store)) × (n ≤ 256) ⌝ }
+    ensures { λ _. ⌜ now (store .exit)
+        ≡ paste (now (store .entry)) at (part (now (plan .entry)) wordsAt n) n ⌝ }
 {
     let mut i = 0;
-    while i < words.len() {
-        store[at + i] = words[i];
+    while i < n {
+        store[at + i] = layout::word(plan, i);
         i += 1;
     }
 }

@@ -1,22 +1,28 @@
 // The lines `plan`, `job`, `block`, `call` and `step`.
 ghost use mathlib.Core.Path.{_≡_};
 ghost use mathlib.Core.Bool.{_&&_};
+ghost use mathlib.Core.List.{List};
 ghost use lib.Dec.{eqb};
-ghost use Prim.Native.Nat.{_≤_, _<_, _+_};
+ghost use Prim.Native.Nat.{ℕ, _≤_, _<_, _+_, _-_};
 ghost use lib.ListN.{length};
 ghost use Rattle.text.specs.Lines.{numbers};
 ghost use Rattle.text.specs.Places.{fieldsAt};
 ghost use Rattle.format.specs.declared.Kind.{Kind};
+ghost use Rattle.format.specs.Plan.{table};
 ghost use Rattle.format.specs.Items.{itemOf};
 ghost use Rattle.format.specs.Faults.{taken};
-ghost use Rattle.format.specs.Stored.{Arrays, table};
-ghost use Rattle.line.specs.Steps.{Ranged, LineStep, entryItem, withJobs, withWords, jobIn};
+ghost use Rattle.layout.specs.PlanTable.{sizesIn, jobAt};
+ghost use Rattle.layout.specs.EntryTable.{entryPlaces};
+ghost use Rattle.line.specs.Steps.{tables, Holds, LineStep, entryItem};
+ghost use Rattle.plan_lines.specs.Words.{WordsRead};
 use format::Entry;
 use format::Fault;
-use format::Progress;
 use format::Sizes;
+use layout::ENTRY_PLACES;
+use layout::PLAN_PLACES;
 use line::EntryRead;
 use line::LineRead;
+use line::Progress;
 use text::Numbers;
 use text::read_numbers;
 
@@ -28,9 +34,11 @@ fn size_of(n: u32) -> usize
 }
 
 // `plan P N B S C`.
-pub fn plan_line(line: &[u8], at: usize, p: Progress) -> LineRead
-    requires { ⌜ (at ≤ length (now line) + 1) × ((p .lines ≡ 0) × Ranged p) ⌝ }
-    ensures { λ r. ⌜ ((a : Arrays) → LineStep Kind.Plan p a a
+pub fn plan_line(line: &[u8], at: usize, p: Progress, plan: &mut [u32; PLAN_PLACES]) -> LineRead
+    requires { ⌜ (at ≤ length (now line) + 1) × ((p .lines ≡ 0) × Holds p (now plan)) ⌝ }
+    ensures { λ r. ⌜ ((e : List ℕ) → LineStep Kind.Plan p
+        (tables (now (plan .entry)) e)
+        (tables (now (plan .exit)) e)
         (itemOf Kind.Plan (numbers 5 (fieldsAt (now (line .entry)) at)))
         r) ⌝ }
 {
@@ -49,14 +57,14 @@ pub fn plan_line(line: &[u8], at: usize, p: Progress) -> LineRead
     if !sizes::in_range(sizes) {
         return LineRead::Refused(Fault::BadSize, number);
     }
+    layout::put_sizes(plan, n[0], n[1], n[2], n[3], n[4]);
     let mut q = p;
-    q.sizes = sizes;
     q.lines = number;
     LineRead::Read(q)
 }
 
 // Whether a card and a priority are both the same.
-fn same_job(card: u8, priority: u8, other_card: u8, other_priority: u8) -> bool
+fn same_job(card: u32, priority: u32, other_card: u32, other_priority: u32) -> bool
     ensures { λ r. ⌜ r ≡ (eqb card «other_card» && eqb priority «other_priority») ⌝ }
 {
     if card == other_card {
@@ -66,16 +74,19 @@ fn same_job(card: u8, priority: u8, other_card: u8, other_priority: u8) -> bool
 }
 
 // Whether one of the first n jobs has this card and priority.
-fn job_taken(cards: &[u8; 16], priorities: &[u8; 16], n: usize, card: u8, priority: u8) -> bool
+fn job_taken(plan: &[u32; PLAN_PLACES], n: usize, card: u32, priority: u32) -> bool
     requires { ⌜ n ≤ 16 ⌝ }
     ensures { λ r. ⌜ r
-        ≡ taken
-        (record { card = card; priority = priority })
-        (table n (jobIn (now (cards .entry)) (now (priorities .entry)))) ⌝ }
+        ≡ taken (record { card = card; priority = priority }) (table n (jobAt (now (plan .entry)))) ⌝ }
 {
     let mut i = 0;
     while i < n {
-        if same_job(cards[i], priorities[i], card, priority) {
+        if same_job(
+            layout::card(plan, i),
+            layout::priority(plan, i),
+            card,
+            priority,
+        ) {
             return true;
         }
         i += 1;
@@ -84,17 +95,12 @@ fn job_taken(cards: &[u8; 16], priorities: &[u8; 16], n: usize, card: u8, priori
 }
 
 // `job card priority`.
-pub fn job_line(
-    line: &[u8],
-    at: usize,
-    p: Progress,
-    cards: &mut [u8; 16],
-    priorities: &mut [u8; 16],
-) -> LineRead
-    requires { ⌜ (at ≤ length (now line) + 1) × ((p .jobs < p .sizes .jobs) × ((p .lines < 65536) × Ranged p)) ⌝ }
-    ensures { λ r. ⌜ ((a : Arrays) → LineStep Kind.Job p
-        (withJobs a (now (cards .entry)) (now (priorities .entry)))
-        (withJobs a (now (cards .exit)) (now (priorities .exit)))
+pub fn job_line(line: &[u8], at: usize, p: Progress, plan: &mut [u32; PLAN_PLACES]) -> LineRead
+    requires { ⌜ (at ≤ length (now line) + 1)
+        × ((p .jobs < sizesIn (now plan) .jobs) × ((p .lines < 65536) × Holds p (now plan))) ⌝ }
+    ensures { λ r. ⌜ ((e : List ℕ) → LineStep Kind.Job p
+        (tables (now (plan .entry)) e)
+        (tables (now (plan .exit)) e)
         (itemOf Kind.Job (numbers 2 (fieldsAt (now (line .entry)) at)))
         r) ⌝ }
 {
@@ -105,44 +111,49 @@ pub fn job_line(
     };
     let card = n[0];
     let priority = n[1];
-    let sizes = p.sizes;
-    if sizes.cards as u32 <= card {
+    let sizes = layout::sizes(plan);
+    if sizes.cards <= size_of(card) {
         return LineRead::Refused(Fault::BadJob, number);
     }
     if 255 < priority {
         return LineRead::Refused(Fault::BadJob, number);
     }
     let jobs = p.jobs;
-    let card = card as u8;
-    let priority = priority as u8;
-    if job_taken(cards, priorities, jobs, card, priority) {
+    if job_taken(plan, jobs, card, priority) {
         return LineRead::Refused(Fault::SameJob, number);
     }
-    cards[jobs] = card;
-    priorities[jobs] = priority;
+    layout::put_card(plan, jobs, card);
+    layout::put_priority(plan, jobs, priority);
     let mut q = p;
     q.jobs = jobs + 1;
     q.lines = number;
     LineRead::Read(q)
 }
 
+// Reads the numbers of a line into a part of a table.
+fn read_part(line: &[u8], at: usize, table: &mut [u32], from: usize, end: usize) -> Numbers
+    requires { ⌜ (at ≤ length (now line) + 1) × ((from ≤ end) × (end ≤ length (now table))) ⌝ }
+    ensures { λ r. ⌜ WordsRead r from (end - from) (fieldsAt (now (line .entry)) at) (now (table .entry))
+        (now (table .exit)) ⌝ }
+{
+    read_numbers(line, at, &mut table[from..end])
+}
+
 // `block` with S opening words, which go to their places at once.
-pub fn block_line(line: &[u8], at: usize, p: Progress, words: &mut [u32]) -> LineRead
-    requires { ⌜ (at ≤ length (now line) + 1) × ((p .blocks < p .sizes .blocks) × ((p .lines < 65536) × Ranged p)) ⌝ }
-    requires { ⌜ length (now words) ≡ 256 ⌝ }
-    ensures { λ r. ⌜ ((a : Arrays) → LineStep Kind.Block p
-        (withWords a (now (words .entry)))
-        (withWords a (now (words .exit)))
-        (itemOf Kind.Block (numbers (p .sizes .words) (fieldsAt (now (line .entry)) at)))
+pub fn block_line(line: &[u8], at: usize, p: Progress, plan: &mut [u32; PLAN_PLACES]) -> LineRead
+    requires { ⌜ (at ≤ length (now line) + 1)
+        × ((p .blocks < sizesIn (now plan) .blocks) × ((p .lines < 65536) × Holds p (now plan))) ⌝ }
+    ensures { λ r. ⌜ ((e : List ℕ) → LineStep Kind.Block p
+        (tables (now (plan .entry)) e)
+        (tables (now (plan .exit)) e)
+        (itemOf Kind.Block (numbers (sizesIn (now (plan .entry)) .words) (fieldsAt (now (line .entry)) at)))
         r) ⌝ }
-    ensures { λ r. ⌜ length (now (words .exit)) ≡ 256 ⌝ }
 {
     let number = p.lines + 1;
-    let sizes = p.sizes;
+    let sizes = layout::sizes(plan);
     let size = sizes.words;
-    let from = p.blocks * size;
-    let end = from + size;
-    let Numbers::Read = read_numbers(line, at, &mut words[from..end]) else {
+    let from = layout::WORDS + p.blocks * size;
+    let Numbers::Read = read_part(line, at, plan, from, from + size) else {
         return LineRead::Refused(Fault::Malformed, number);
     };
     let mut q = p;
@@ -183,20 +194,26 @@ pub fn step_of(line: &[u8], at: usize) -> EntryRead
     })
 }
 
-// A line that holds an entry: it is counted. Its numbers are judged when it runs.
-pub fn entry_line(read: EntryRead, p: Progress) -> LineRead
-    requires { ⌜ (p .lines < 65536) × Ranged p ⌝ }
-    ensures { λ r. ⌜ ((kind : Kind) (a : Arrays) → LineStep kind p a a (entryItem read) r) ⌝ }
+// A line that holds an entry: it is noted with its line. Its numbers are judged when it runs.
+pub fn entry_line(read: EntryRead, p: Progress, entries: &mut [u32; ENTRY_PLACES]) -> LineRead
+    requires { ⌜ (p .lines < 65536) × (length (now entries) ≡ entryPlaces) ⌝ }
+    ensures { λ r. ⌜ ((kind : Kind) (t : List ℕ) → Holds p t → LineStep kind p
+        (tables t (now (entries .entry)))
+        (tables t (now (entries .exit)))
+        (entryItem read)
+        r) ⌝ }
 {
     let number = p.lines + 1;
-    let EntryRead::Is(_) = read else {
+    let EntryRead::Is(e) = read else {
         return LineRead::Refused(Fault::Malformed, number);
     };
-    if 4000 <= p.entries {
+    let i = p.entries;
+    if 4000 <= i {
         return LineRead::Refused(Fault::TooMany, number);
     }
+    layout::note(entries, i, e, number as u32);
     let mut q = p;
-    q.entries = p.entries + 1;
+    q.entries = i + 1;
     q.lines = number;
     LineRead::Read(q)
 }

@@ -16,9 +16,8 @@ use native.Mathlib.Omega.{arith}
 use lib.IntN.{pos}
 use lib.ListN.{length, getD, replicate}
 use lib.Seq.{getD-set-other}
-use Rattle.format.specs.Plan.{Plan}
+use Rattle.format.specs.Plan.{Plan, table}
 use Rattle.format.specs.Sound.{Sound}
-use Rattle.format.specs.Stored.{table}
 use Rattle.model.specs.declared.Place.{Place}
 use Rattle.model.specs.declared.Working.{Working}
 use Rattle.model.specs.declared.Cells.{Cells}

@@ -5,7 +5,7 @@ use mathlib.Core.List.{List, [], _∷_, _++_}
 use native.Mathlib.Omega.{arith}
 use lib.ListN.{length, getD, set, drop, replicate}
 use lib.Seq.{getD-drop}
-use Rattle.format.specs.Stored.{table}
+use Rattle.format.specs.Plan.{table}
 use Rattle.model.specs.Steps.{replaced, inFirstPlaces}
 use Rattle.model.proofs.Tests.{test}
 

@@ -24,9 +24,8 @@ use lib.IntN.{pos, negsuc}
 use lib.ListN.{length}
 use borrow.Author.Tests.{ne-eqb}
 use Rattle.format.specs.declared.Entry.{Entry}
-use Rattle.format.specs.Plan.{Plan}
+use Rattle.format.specs.Plan.{Plan, table}
 use Rattle.format.specs.Sound.{Sound}
-use Rattle.format.specs.Stored.{table}
 use Rattle.format.proofs.Tables.{length-table}
 use Rattle.model.specs.declared.Stage.{Stage}
 use Rattle.model.specs.declared.Place.{Place}

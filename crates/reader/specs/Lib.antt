@@ -1,2 +1,3 @@
 -- What the functions that read a whole text promise.
+pub mod Readings
 pub mod Cursors

@@ -1,28 +1,26 @@
-// A whole text is read in one pass, line by line, into arrays that have room for the largest plan; the entries stay
-// where they are in the text, and are read from there one by one.
+// A whole text is read once, line by line: its plan is put into the plan's table as it is read, and its entries are
+// noted in theirs.
 ghost use mathlib.Core.Path.{_≡_};
-ghost use Prim.Native.Nat.{_≤_, _<_, _+_};
-ghost use mathlib.Core.Bool.{cond};
-ghost use lib.Dec.{eqb};
+ghost use Prim.Native.Nat.{_≤_, _<_};
 ghost use lib.ListN.{length};
 ghost use Rattle.format.specs.Reading.{reading};
-ghost use Rattle.format.specs.Stored.{readingOf};
-ghost use Rattle.line.specs.Steps.{arrays, Roomy, Holds};
-ghost use Rattle.reader.specs.Cursors.{Placed, Advanced, atStart, endedAt, linesGive};
+ghost use Rattle.layout.specs.PlanTable.{emptyPlan};
+ghost use Rattle.layout.specs.EntryTable.{entryPlaces};
+ghost use Rattle.line.specs.Steps.{tables, Holds};
+ghost use Rattle.reader.specs.Cursors.{Placed, Advanced, atStart};
+ghost use Rattle.reader.specs.Readings.{readingFrom};
 use format::Fault;
 use format::Form;
-use format::Progress;
-use format::Sizes;
-use format::StoredPlan;
 use format::Verdict;
+use layout::ENTRY_PLACES;
+use layout::PLAN_PLACES;
 use line::LineRead;
+use line::Progress;
 
-// A place in a text: how much has been read before it, and from where, and from which line on, the entries stand.
+// A place in a text, and how much has been read before it.
 pub struct Cursor {
     pub progress: Progress,
     pub at: usize,
-    pub first: usize,
-    pub line: usize,
 }
 
 // The answer of reading one line on.
@@ -31,32 +29,10 @@ pub enum Advance {
     Refused(Fault, usize),
 }
 
-// What all lines come to.
-pub struct Lines {
-    pub verdict: Verdict,
-    pub sizes: Sizes,
-    pub updates: usize,
-    pub first: usize,
-    pub line: usize,
-}
-
-// A text that has been read: the verdict and, where it is accepted, the plan, and from where, and from which line on,
-// the entries stand.
+// What reading a text answers: the verdict, and how many entries were noted.
 pub struct Parsed {
     pub verdict: Verdict,
-    pub plan: StoredPlan,
-    pub first: usize,
-    pub line: usize,
-}
-
-// A place where the entries may begin: the new one as long as there is no entry, and then the old one.
-fn begins(entries: usize, new: usize, old: usize) -> usize
-    ensures { λ r. ⌜ r ≡ cond (eqb entries 0) new old ⌝ }
-{
-    if entries == 0 {
-        return new;
-    }
-    old
+    pub entries: usize,
 }
 
 // Reads the line at a cursor. A last line without its line feed is refused, whatever it holds.
@@ -64,26 +40,15 @@ fn read_on(
     text: &[u8],
     form: Form,
     c: Cursor,
-    cards: &mut [u8; 16],
-    priorities: &mut [u8; 16],
-    words: &mut [u32],
-    counts: &mut [u8; 32],
-    kinds: &mut [u8; 512],
-    targets: &mut [u8; 512],
-    sources: &mut [u8; 512],
-    amounts: &mut [u32; 512],
+    plan: &mut [u32; PLAN_PLACES],
+    entries: &mut [u32; ENTRY_PLACES],
 ) -> Advance
     requires { ⌜ (c .at < length (now text)) × (length (now text) ≤ 65536) ⌝ }
-    requires { ⌜ Placed (now text) c ⌝ }
-    requires { ⌜ Holds (c .progress)
-        (arrays (now cards) (now priorities) (now words) (now counts) (now kinds) (now targets) (now sources)
-        (now amounts)) ⌝ }
+    requires { ⌜ Placed (now text) c (now entries) × Holds (c .progress) (now plan) ⌝ }
     ensures { λ r. ⌜ Advanced form (now (text .entry)) c
-        (arrays (now (cards .entry)) (now (priorities .entry)) (now (words .entry)) (now (counts .entry))
-        (now (kinds .entry)) (now (targets .entry)) (now (sources .entry)) (now (amounts .entry)))
+        (tables (now (plan .entry)) (now (entries .entry)))
         r
-        (arrays (now (cards .exit)) (now (priorities .exit)) (now (words .exit)) (now (counts .exit))
-        (now (kinds .exit)) (now (targets .exit)) (now (sources .exit)) (now (amounts .exit))) ⌝ }
+        (tables (now (plan .exit)) (now (entries .exit))) ⌝ }
 {
     let p = c.progress;
     let at = c.at;
@@ -91,27 +56,12 @@ fn read_on(
     if end == text.len() {
         return Advance::Refused(Fault::Unknown, p.lines + 1);
     }
-    let next = end + 1;
-    let read = one_line::read_line(
-        &text[at..end],
-        form,
-        p,
-        cards,
-        priorities,
-        words,
-        counts,
-        kinds,
-        targets,
-        sources,
-        amounts,
-    );
+    let read = one_line::read_line(&text[at..end], form, p, plan, entries);
     match read {
         LineRead::Refused(f, n) => Advance::Refused(f, n),
         LineRead::Read(q) => Advance::Next(Cursor {
             progress: q,
-            at: next,
-            first: begins(q.entries, next, c.first),
-            line: begins(q.entries, q.lines + 1, c.line),
+            at: end + 1,
         }),
     }
 }
@@ -122,137 +72,55 @@ fn start() -> Cursor
 {
     Cursor {
         progress: Progress {
-            sizes: Sizes {
-                cards: 0,
-                jobs: 0,
-                blocks: 0,
-                words: 0,
-                copies: 0,
-            },
             lines: 0,
             jobs: 0,
             blocks: 0,
-            updates: 0,
             written: 0,
             entries: 0,
         },
         at: 0,
-        first: 0,
-        line: 1,
     }
 }
 
-// What a verdict and a cursor come to.
-fn ended(verdict: Verdict, c: Cursor) -> Lines
-    ensures { λ r. ⌜ r ≡ endedAt verdict c ⌝ }
-{
-    let p = c.progress;
-    let sizes = p.sizes;
-    Lines {
-        verdict,
-        sizes,
-        updates: p.updates,
-        first: c.first,
-        line: c.line,
-    }
-}
-
-// All lines of a text, which is measured first.
-fn read_lines(
+// Reads a text, which is measured first, into empty tables. Time is linear in the text.
+pub fn read(
     text: &[u8],
     form: Form,
-    cards: &mut [u8; 16],
-    priorities: &mut [u8; 16],
-    words: &mut [u32],
-    counts: &mut [u8; 32],
-    kinds: &mut [u8; 512],
-    targets: &mut [u8; 512],
-    sources: &mut [u8; 512],
-    amounts: &mut [u32; 512],
-) -> Lines
-    requires { ⌜ Roomy
-        (arrays (now cards) (now priorities) (now words) (now counts) (now kinds) (now targets) (now sources)
-        (now amounts)) ⌝ }
-    ensures { λ r. ⌜ linesGive r (now (text .entry))
-        (arrays (now (cards .exit)) (now (priorities .exit)) (now (words .exit)) (now (counts .exit))
-        (now (kinds .exit)) (now (targets .exit)) (now (sources .exit)) (now (amounts .exit)))
+    plan: &mut [u32; PLAN_PLACES],
+    entries: &mut [u32; ENTRY_PLACES],
+) -> Parsed
+    requires { ⌜ (now plan ≡ emptyPlan) × (length (now entries) ≡ entryPlaces) ⌝ }
+    ensures { λ r. ⌜ readingFrom (r .verdict) (now (plan .exit)) (r .entries) (now (entries .exit))
         ≡ reading form (now (text .entry)) ⌝ }
-    ensures { λ r. ⌜ r .line ≤ 65537 ⌝ }
 {
     let mut c = start();
     if 65536 < text.len() {
-        return ended(Verdict::Refused(Fault::TooLong, 0), c);
+        return Parsed {
+            verdict: Verdict::Refused(Fault::TooLong, 0),
+            entries: 0,
+        };
     }
     while c.at < text.len() {
-        let step = read_on(
-            text,
-            form,
-            c,
-            cards,
-            priorities,
-            words,
-            counts,
-            kinds,
-            targets,
-            sources,
-            amounts,
-        );
+        let step = read_on(text, form, c, plan, entries);
         match step {
-            Advance::Refused(f, n) => return ended(Verdict::Refused(f, n), c),
+            Advance::Refused(f, n) => {
+                return Parsed {
+                    verdict: Verdict::Refused(f, n),
+                    entries: 0,
+                };
+            }
             Advance::Next(d) => c = d,
         }
     }
     let p = c.progress;
-    if kinds::laid_out(p) {
-        return ended(Verdict::Accepted(p.lines), c);
+    if kinds::laid_out(p, plan) {
+        return Parsed {
+            verdict: Verdict::Accepted(p.lines),
+            entries: p.entries,
+        };
     }
-    ended(Verdict::Refused(Fault::Misplaced, p.lines + 1), c)
-}
-
-// Reads a text: its verdict, its plan, and where its entries stand. Time is linear in the text, and the plan is put
-// together once, at the end.
-pub fn read(text: &[u8], form: Form) -> Parsed
-    ensures { λ r. ⌜ readingOf (r .verdict) (r .plan) (r .first) (r .line) (now (text .entry))
-        ≡ reading form (now (text .entry)) ⌝ }
-    ensures { λ r. ⌜ r .line ≤ 65537 ⌝ }
-{
-    let mut cards = [0u8; 16];
-    let mut priorities = [0u8; 16];
-    let mut words = [0u32; 256];
-    let mut counts = [0u8; 32];
-    let mut kinds = [0u8; 512];
-    let mut targets = [0u8; 512];
-    let mut sources = [0u8; 512];
-    let mut amounts = [0u32; 512];
-    let lines = read_lines(
-        text,
-        form,
-        &mut cards,
-        &mut priorities,
-        &mut words,
-        &mut counts,
-        &mut kinds,
-        &mut targets,
-        &mut sources,
-        &mut amounts,
-    );
-    let verdict = lines.verdict;
-    let sizes = lines.sizes;
     Parsed {
-        verdict,
-        plan: StoredPlan {
-            sizes,
-            updates: lines.updates,
-            cards,
-            priorities,
-            words,
-            counts,
-            kinds,
-            targets,
-            sources,
-            amounts,
-        },
-        first: lines.first,
-        line: lines.line,
+        verdict: Verdict::Refused(Fault::Misplaced, p.lines + 1),
+        entries: 0,
     }
 }

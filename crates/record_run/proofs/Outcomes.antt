@@ -35,7 +35,7 @@ use Rattle.report.specs.Writing.{reportBytes}
 use Rattle.running.specs.Schedules.{refusalOf}
 use Rattle.running.specs.declared.Ran.{Ran as Ended}
 use Rattle.running.specs.Rans.{ranOf}
-use Rattle.running.specs.Schedules.{RunIs}
+use Rattle.running.specs.Schedules.{lent, RunIs}
 use Rattle.running.proofs.Starting.{ends}
 use Rattle.schedule.specs.declared.Walk.{Walk}
 use Rattle.schedule.specs.Walking.{placeOf}
@@ -123,8 +123,7 @@ module _ {text : List ℕ} {es : List Entry} {lines : ℕ} {sizes : Sizes} {walk
   few-accepted = omega (arith, r .walked .reached .few-done, few)
 
   -- The run has ended.
-  ended : RunIs (r .plan) es (λ i. i + 1) (length es) (ran .cells) (ran .works) (ran .commits) (ran .end) store
-      (r .addr) (r .old) (r .new) rows
+  ended : RunIs (r .plan) es (λ i. i + 1) (length es) ran (lent store (r .addr) (r .old) (r .new) rows)
   ended = rw (ran-is) (ends (r .walked .reached) few (λ i. i + 1) (length es))
 
   -- What writing the report asks.

@@ -10,15 +10,13 @@ use lib.ListN.{length, take}
 use lib.Seq.{take-length}
 use Rattle.format.specs.declared.Entry.{Entry}
 use Rattle.format.specs.declared.Verdict.{Verdict}
-use Rattle.format.specs.declared.StoredPlan.{StoredPlan}
+use Rattle.plan_arrays.specs.declared.PlanArrays.{PlanArrays}
 use Rattle.format.specs.Plan.{Plan}
 use Rattle.format.specs.Faults.{mostEntries}
-use Rattle.running.specs.Schedules.{Starts}
+use Rattle.running.specs.Schedules.{lent, Starts}
 use Rattle.running.proofs.Starting.{begins}
 use Rattle.schedule.specs.declared.Walk.{Walk}
 use Rattle.schedule.specs.Walking.{placeOf, WalkIs, Walks}
-use Rattle.text_run.specs.Finishing.{thePlan}
-use Rattle.text_run.proofs.Laws.{stored-plan}
 use Rattle.record_run.specs.declared.Begun.{Begun}
 use Rattle.record_run.specs.Records.{toRun, Accepts, ByVerdict, Ready, Closing}
 
@@ -38,8 +36,8 @@ all-run count few = rw (le-ltb mostEntries count few)
 
 module _ {text : List ℕ} (es : List Entry) {begun : Begun} {store : List ℕ} {addr old new rows : List (List ℕ)}
     (r : Ready text (length es) begun store addr old new rows) where
-  -- The plan that is stored, and what running the records asks.
-  abbrev p : StoredPlan
+  -- The arrays of the plan, and what running the records asks.
+  abbrev p : PlanArrays
   p = begun .plan
 
   abbrev pub Start : Plan → Type 0
@@ -48,10 +46,10 @@ module _ {text : List ℕ} (es : List Entry) {begun : Begun} {store : List ℕ} 
       (p .amounts) (begun .walk) store addr old new rows
 
   -- An accepted text's records can run, where they are few.
-  started : (lines : ℕ) → Accepts text lines (length es) begun store → length es ≤ 4000 → Start (thePlan p)
+  started : (lines : ℕ) (a : Accepts text lines (length es) begun store) → length es ≤ 4000 → Start (a .plan)
   started lines a few =
       record {
-        stored = stored-plan p (a .sound);
+        stored = a .stored;
         few = few;
         walked =
             record {
@@ -61,11 +59,10 @@ module _ {text : List ℕ} (es : List Entry) {begun : Begun} {store : List ℕ} 
             };
       }
     where
-      starts : Starts (thePlan p) (p .sizes) (p .updates) (p .cards) (p .priorities) (p .counts) (p .kinds)
-          (p .targets) (p .sources) (p .amounts) es store addr old new rows
+      starts : Starts (a .plan) es (lent store addr old new rows)
       starts =
           record {
-            stored = stored-plan p (a .sound);
+            sound = a .stored .sound;
             few = few;
             store-is = a .store-is;
             addr-is = r .addr-is;
@@ -82,9 +79,9 @@ module _ {text : List ℕ} (es : List Entry) {begun : Begun} {store : List ℕ} 
           → (begun .n ≤ length es) × (0 < begun .n → ((plan : Plan) × Start plan))
       by (Verdict.Refused f n) none = (omega (arith, none), λ l. absurd (omega (arith, none)))
       by (Verdict.Accepted lines) a =
-          (omega (arith, a .n-is, few-run (length es) .0), λ l. (thePlan p, start lines a l))
+          (omega (arith, a .n-is, few-run (length es) .0), λ l. (a .plan, start lines a l))
         where
-          start : (lines : ℕ) (a : Accepts text lines (length es) begun store) → 0 < begun .n → Start (thePlan p)
+          start : (lines : ℕ) (a : Accepts text lines (length es) begun store) → 0 < begun .n → Start (a .plan)
           start lines a l = started lines a (small (decLt mostEntries (length es)))
             where
               small : Dec (mostEntries < length es) → length es ≤ 4000
@@ -105,17 +102,17 @@ module _ {text : List ℕ} (es : List Entry) {begun : Begun} {store : List ℕ} 
             λ lines is few.
             let a = subst (λ v. ByVerdict v text (length es) begun store) is (r .begun-is .by-verdict) in
             record {
-              plan = thePlan p;
+              plan = a .plan;
               listed = a .listed;
               read = a .read;
-              sound = a .sound;
-              sizes-are = refl;
+              sound = a .stored .sound;
+              sizes-are = a .stored .plan-is .sizes-are;
               addr = addr′;
               old = old′;
               new = new′;
               walked =
-                  subst (λ l. WalkIs (thePlan p) es l walk store′ addr′ old′ new′ rows′)
+                  subst (λ l. WalkIs (a .plan) es l walk store′ addr′ old′ new′ rows′)
                   (ap (λ n. take n es) (a .n-is ∙ all-run (length es) few) ∙ take-length es)
-                  (w (thePlan p) (started lines a few));
+                  (w (a .plan) (started lines a few));
             };
       }

@@ -15,24 +15,26 @@ use Rattle.format.specs.Sound.{Sound}
 use Rattle.format.specs.Faults.{mostEntries}
 use Rattle.format.specs.Reading.{accepted, reading, verdictOf}
 use Rattle.model.specs.Machine.{openingStore}
-use Rattle.running.specs.Schedules.{Begun as Opens, emptyRows}
+use Rattle.running.specs.Schedules.{Begun as Opens, Stored, emptyRows}
 use Rattle.schedule.specs.declared.Walk.{Walk}
 use Rattle.schedule.specs.Walking.{WalkIs}
-use Rattle.text_run.specs.Finishing.{thePlan}
 use Rattle.record_run.specs.declared.Begun.{Begun}
 
 -- How many of some records run: none, where there are too many.
 abbrev pub toRun : ℕ → ℕ
 toRun count = cond (ltb mostEntries count) 0 count
 
--- An accepted plan's text: the plan is stored, and the run is at its opening.
+-- An accepted plan's text: the plan is sound and stands in its arrays, and the run is at its opening.
 pub record Accepts (text : List ℕ) (lines count : ℕ) (begun : Begun) (store : List ℕ) : Type 0 where
+  pub plan : Plan
   pub listed : List Listed
-  pub read : reading Form.PlanAlone text ≡ accepted (thePlan (begun .plan)) listed lines
-  pub sound : Sound (thePlan (begun .plan))
+  pub read : reading Form.PlanAlone text ≡ accepted plan listed lines
+  pub stored :
+      Stored plan (begun .plan .sizes) (begun .plan .updates) (begun .plan .cards) (begun .plan .priorities)
+      (begun .plan .counts) (begun .plan .kinds) (begun .plan .targets) (begun .plan .sources) (begun .plan .amounts)
   pub n-is : begun .n ≡ toRun count
-  pub store-is : store ≡ openingStore (thePlan (begun .plan))
-  pub opens : Opens (thePlan (begun .plan)) (begun .walk .progress)
+  pub store-is : store ≡ openingStore plan
+  pub opens : Opens plan (begun .walk .progress)
   pub none-seen : begun .walk .seen ≡ 0
   pub none-other : begun .walk .other ≡ 0
 

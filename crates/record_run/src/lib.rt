@@ -4,6 +4,8 @@ ghost use mathlib.Core.List.{List};
 ghost use Prim.Native.Nat.{ℕ, _+_, _≤_};
 ghost use lib.ListN.{length};
 ghost use Rattle.format.specs.Plan.{Plan};
+ghost use Rattle.layout.specs.PlanTable.{emptyPlan};
+ghost use Rattle.layout.specs.EntryTable.{entryPlaces};
 ghost use Rattle.runs.specs.Runs.{endOf, runSchedule, left};
 ghost use Rattle.running.specs.Schedules.{Begun as Opens, refusalOf};
 ghost use Rattle.text_run.specs.Finishing.{WrittenOut, emptyStore};
@@ -13,8 +15,10 @@ use format::Entry;
 use format::Fault;
 use format::Form;
 use format::Sizes;
-use format::StoredPlan;
 use format::Verdict;
+use layout::ENTRY_PLACES;
+use layout::PLAN_PLACES;
+use plan_arrays::PlanArrays;
 use reference::Ended;
 use running::Halt;
 use runs::End;
@@ -28,7 +32,7 @@ const MOST: usize = 4000;
 // how many records run, and the run at its opening.
 pub struct Begun {
     pub verdict: Verdict,
-    pub plan: StoredPlan,
+    pub plan: PlanArrays,
     pub n: usize,
     pub walk: Walk,
 }
@@ -57,14 +61,20 @@ fn walk_from(sizes: Sizes) -> Walk
     }
 }
 
-// The plan's text is checked, and where it is accepted the opening memory is put into the store.
-pub fn begin(text: &[u8], count: usize, store: &mut [u32]) -> Begun
-    requires { ⌜ now store ≡ emptyStore ⌝ }
+// The plan's text is read into empty tables, and where it is accepted the opening memory is put into the store.
+fn begin_lent(
+    text: &[u8],
+    count: usize,
+    table: &mut [u32; PLAN_PLACES],
+    entries: &mut [u32; ENTRY_PLACES],
+    store: &mut [u32],
+) -> Begun
+    requires { ⌜ (now table ≡ emptyPlan) × ((length (now entries) ≡ entryPlaces) × (now store ≡ emptyStore)) ⌝ }
     ensures { λ r. ⌜ BegunIs (now (text .entry)) count r (now (store .exit)) ⌝ }
 {
-    let parsed = reader::read(text, Form::PlanAlone);
+    let parsed = reader::read(text, Form::PlanAlone, table, entries);
     let verdict = parsed.verdict;
-    let plan = parsed.plan;
+    let plan = plan_arrays::arrays_of(table);
     match verdict {
         Verdict::Refused(fault, line) => {
             let walk = walk_from(Sizes {
@@ -83,7 +93,7 @@ pub fn begin(text: &[u8], count: usize, store: &mut [u32]) -> Begun
         }
         Verdict::Accepted(lines) => {
             let sizes = plan.sizes;
-            text_run::open_store(plan, store);
+            text_run::open_store(table, store);
             let walk = walk_from(sizes);
             let n = to_run(count);
             Begun {
@@ -94,6 +104,16 @@ pub fn begin(text: &[u8], count: usize, store: &mut [u32]) -> Begun
             }
         }
     }
+}
+
+// What comes before the records run. The tables are made here, and lent.
+pub fn begin(text: &[u8], count: usize, store: &mut [u32]) -> Begun
+    requires { ⌜ now store ≡ emptyStore ⌝ }
+    ensures { λ r. ⌜ BegunIs (now (text .entry)) count r (now (store .exit)) ⌝ }
+{
+    let mut table = [0u32; PLAN_PLACES];
+    let mut entries = [0u32; ENTRY_PLACES];
+    begin_lent(text, count, &mut table, &mut entries, store)
 }
 
 // The records of a plan's text run, in arrays that are lent; the plan's arrays are lent to the loop from here.

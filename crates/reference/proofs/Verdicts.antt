@@ -3,12 +3,10 @@ use Prim.Native.Nat.{ℕ}
 use mathlib.Core.Path.{_≡_, refl}
 use mathlib.Core.List.{List}
 use Rattle.format.specs.declared.Verdict.{Verdict}
-use Rattle.format.specs.declared.StoredPlan.{StoredPlan}
 use Rattle.format.specs.Reading.{verdictOf}
-use Rattle.format.specs.Stored.{readingOf}
+use Rattle.reader.specs.Readings.{readingFrom}
 
 -- A reading made of a verdict has that verdict.
-pub verdict-kept : (v : Verdict) (p : StoredPlan) (first line : ℕ) (text : List ℕ)
-    → v ≡ verdictOf (readingOf v p first line text)
-verdict-kept (Verdict.Accepted n) p first line text = refl
-verdict-kept (Verdict.Refused f n) p first line text = refl
+pub verdict-kept : (v : Verdict) (t : List ℕ) (count : ℕ) (e : List ℕ) → v ≡ verdictOf (readingFrom v t count e)
+verdict-kept (Verdict.Accepted n) t count e = refl
+verdict-kept (Verdict.Refused f n) t count e = refl

@@ -6,6 +6,8 @@ ghost use Rattle.reference.specs.Answers.{answerOf, endedBy, endedOf};
 ghost use denote.Ref.{ptr};
 use format::Form;
 use format::Verdict;
+use layout::ENTRY_PLACES;
+use layout::PLAN_PLACES;
 use text_run::Finished;
 
 // A number of the table with its line: 0 with the count of all lines, or a refusal with the line where it was met.
@@ -19,7 +21,9 @@ pub struct Answer {
 pub fn check(text: &[u8], form: Form) -> Verdict
     ensures { λ r. ⌜ r ≡ verdictOf (reading form (now (text .entry))) ⌝ }
 {
-    let parsed = reader::read(text, form);
+    let mut plan = [0u32; PLAN_PLACES];
+    let mut entries = [0u32; ENTRY_PLACES];
+    let parsed = reader::read(text, form, &mut plan, &mut entries);
     parsed.verdict
 }
 

@@ -10,7 +10,7 @@ use lib.ListN.{length, getD, take, drop, length-append, length-drop}
 use lib.Seq.{take-suc, getD-drop}
 use Rattle.text.proofs.Cases.{by-test}
 use Rattle.text.specs.Decimal.{digits, decimal}
-use Rattle.format.specs.Stored.{table}
+use Rattle.format.specs.Plan.{table}
 use Rattle.model.specs.Machine.{blockIn}
 use Rattle.runs.specs.Report.{joined}
 

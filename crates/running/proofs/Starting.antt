@@ -7,8 +7,7 @@ use native.Mathlib.Omega.{arith}
 use lib.ListN.{length, take}
 use Rattle.format.specs.declared.Sizes.{Sizes}
 use Rattle.format.specs.declared.Entry.{Entry}
-use Rattle.format.specs.Plan.{Plan}
-use Rattle.format.specs.Stored.{table}
+use Rattle.format.specs.Plan.{Plan, table}
 use Rattle.model.specs.declared.Working.{Working}
 use Rattle.model.specs.Working.{opening}
 use Rattle.model.specs.Machine.{openingOf}
@@ -18,7 +17,8 @@ use Rattle.runs.specs.Runs.{endOf}
 use Rattle.judging.specs.Turns.{Turns}
 use Rattle.stores.specs.Carried.{machineOf}
 use Rattle.running.specs.declared.Progress.{Progress}
-use Rattle.running.specs.Schedules.{refusalOf, Begun, Reached, Starts, RunIs}
+use Rattle.running.specs.Schedules.{refusalOf, Lent, Begun, Reached, Starts, RunIs}
+use Rattle.running.specs.Rans.{ranOf}
 
 -- The records at the opening, by the number of copy blocks.
 pub opening-works : (plan : Plan) (sizes : Sizes) → plan .sizes ≡ sizes → (works : List Working)
@@ -28,23 +28,15 @@ unfolding openingOf
 opening-works plan sizes same works e =
     e ∙ ap (λ (s : Sizes). table 16 (λ p. opening (table 8 (λ i. p * s .copies + i)))) (sym same)
 
-module _ {plan : Plan} {sizes : Sizes} {updates : ℕ} {cards priorities : List ℕ}
-    {counts kinds targets sources amounts : List ℕ} {es : List Entry} {store : List ℕ}
-    {addr old new rows : List (List ℕ)}
-    (st : Starts plan sizes updates cards priorities counts kinds targets sources amounts es store addr old new
-    rows) where
-  -- The sizes are small.
-  pub small-sizes : (sizes .jobs ≤ 16) × (sizes .copies ≤ 8)
-  small-sizes = rw (← st .stored .plan-is .sizes-are) (st .stored .sound .jobs, st .stored .sound .copies)
-
+module _ {plan : Plan} {es : List Entry} {x : Lent} (st : Starts plan es x) where
   -- The store is whole.
-  pub whole-store : length store ≡ 2304
+  pub whole-store : length (x .store) ≡ 2304
   unfolding openingOf begun runOf
-  whole-store = ap (λ (l : List ℕ). length l) (st .store-is) ∙ always plan (st .stored .sound) [] .sized .store
+  whole-store = ap (λ (l : List ℕ). length l) (st .store-is) ∙ always plan (st .sound) [] .sized .store
 
   -- The opening, put together.
   the-opening : (progress : Progress) → Begun plan progress
-      → machineOf (progress .state .cells) (progress .works) store addr old new ≡ openingOf plan
+      → machineOf (progress .state .cells) (progress .works) (x .store) (x .addr) (x .old) (x .new) ≡ openingOf plan
   unfolding openingOf
   the-opening progress b =
       λ i.
@@ -58,30 +50,33 @@ module _ {plan : Plan} {sizes : Sizes} {updates : ℕ} {cards priorities : List 
       }
 
   -- The run before its first entry.
-  pub begins : (progress : Progress) → Begun plan progress → Reached plan es [] progress store addr old new rows
+  pub begins : (progress : Progress) → Begun plan progress
+      → Reached plan es [] progress (x .store) (x .addr) (x .old) (x .new) (x .rows)
   unfolding openingOf begun runOf
   begins progress b =
       record {
         machine-is = opens;
         stopped-by = ap refusalOf (b .goes-on);
         turns =
-            subst (λ x. Turns plan x (progress .state .turn .active) (progress .state .turn .running)) (sym opens)
+            subst (λ m. Turns plan m (progress .state .turn .active) (progress .state .turn .running)) (sym opens)
             (b .opened .turns);
         counted = b .opened .none-done;
         few-done = omega (arith, b .opened .none-done);
         few-rows = omega (arith, b .opened .none-committed);
         all-rows = st .all-rows;
-        rows-are = ap (λ k. take k rows) (b .opened .none-committed);
+        rows-are = ap (λ k. take k (x .rows)) (b .opened .none-committed);
       }
     where
-      opens : machineOf (progress .state .cells) (progress .works) store addr old new ≡ openingOf plan
+      opens : machineOf (progress .state .cells) (progress .works) (x .store) (x .addr) (x .old) (x .new)
+          ≡ openingOf plan
       opens = the-opening progress b
 
 -- The run when all of its entries have run, or one was refused.
-pub ends : {plan : Plan} {es : List Entry} {progress : Progress} {store : List ℕ} {addr old new rows : List (List ℕ)}
-    → Reached plan es es progress store addr old new rows → length es ≤ 4000 → (line : ℕ → ℕ) (count : ℕ)
-    → RunIs plan es line count (progress .state .cells) (progress .works) (progress .state .commits)
-    (endOf (refusalOf (progress .halt)) (line (progress .state .entries)) count) store addr old new rows
+pub ends : {plan : Plan} {es : List Entry} {progress : Progress} {x : Lent}
+    → Reached plan es es progress (x .store) (x .addr) (x .old) (x .new) (x .rows) → length es ≤ 4000
+    → (line : ℕ → ℕ) (count : ℕ)
+    → RunIs plan es line count
+    (ranOf progress (endOf (refusalOf (progress .halt)) (line (progress .state .entries)) count)) x
 ends g few line count =
     record {
       machine-is = g .machine-is;

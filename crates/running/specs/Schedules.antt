@@ -9,21 +9,17 @@ use Rattle.format.specs.declared.Sizes.{Sizes}
 use Rattle.format.specs.declared.Entry.{Entry}
 use Rattle.format.specs.Plan.{Plan, Listed}
 use Rattle.format.specs.Sound.{Sound}
-use Rattle.format.specs.Reading.{entriesOf}
-use Rattle.model.specs.declared.Working.{Working}
-use Rattle.model.specs.declared.Cells.{Cells}
 use Rattle.model.specs.declared.Refusal.{Refusal}
 use Rattle.model.specs.Machine.{openingStore, openingOf}
 use Rattle.model.specs.History.{commitsIn, runOf}
-use Rattle.runs.specs.declared.End.{End}
 use Rattle.runs.specs.Runs.{endOf}
-use Rattle.entries.specs.EntryLines.{linesFrom}
 use Rattle.judging.specs.Turns.{PlanIs, Turns}
 use Rattle.items.specs.Standing.{MovesAre}
 use Rattle.stores.specs.Carried.{machineOf}
 use Rattle.machine.specs.declared.State.{State}
 use Rattle.running.specs.declared.Halt.{Halt}
 use Rattle.running.specs.declared.Progress.{Progress}
+use Rattle.running.specs.declared.Ran.{Ran}
 use Rattle.running.specs.Rows.{rowsIn}
 
 -- The entries without their lines.
@@ -69,27 +65,33 @@ pub record Enters
   pub few : length all ≤ 4000
   pub reached : Reached plan all done progress store addr old new rows
 
--- A run from a text goes on at a place of it: the entries before the place are done and none was refused, those from it
--- on are left.
-pub record Going
-    (plan : Plan) (listed : List Listed) (text : List ℕ) (progress : Progress) (store : List ℕ)
-    (addr old new rows : List (List ℕ)) (at line : ℕ) : Type 0 where
-  pub done : List Listed
-  pub split : listed ≡ done ++ entriesOf (plan .sizes .words) line (linesFrom text at)
-  pub reached : Reached plan (entriesIn listed) (entriesIn done) progress store addr old new rows
+-- The arrays that a run is lent: the store, the rows of addresses, of old and of new block numbers, and the commits.
+pub record Lent : Type 0 where
+  pub store : List ℕ
+  pub addr : List (List ℕ)
+  pub old : List (List ℕ)
+  pub new : List (List ℕ)
+  pub rows : List (List ℕ)
+
+-- These five.
+abbrev pub lent : List ℕ → List (List ℕ) → List (List ℕ) → List (List ℕ) → List (List ℕ) → Lent
+lent s a o n r = record { store = s; addr = a; old = o; new = n; rows = r }
+
+-- A run of a text's entries goes on: the first i of them are done, and none was refused.
+pub record Going (plan : Plan) (listed : List Listed) (i : ℕ) (progress : Progress) (x : Lent) : Type 0 where
+  pub reached :
+      Reached plan (entriesIn listed) (entriesIn (take i listed)) progress (x .store) (x .addr) (x .old) (x .new)
+      (x .rows)
   pub goes-on : progress .halt ≡ Halt.Going
-  -- the line's number is small
-  pub low : line ≤ 65537 + at
 
 -- A run has ended: this is the state that all entries give, or that the refused one left, these are the commits, and
 -- this is the end. Entry i, from 0, stands in line `line i`; acceptance gives `count`.
-pub record RunIs
-    (plan : Plan) (es : List Entry) (line : ℕ → ℕ) (count : ℕ) (cells : Cells) (works : List Working)
-    (commits : ℕ) (end : End) (store : List ℕ) (addr old new rows : List (List ℕ)) : Type 0 where
-  pub machine-is : machineOf cells works store addr old new ≡ runOf plan es .machine
-  pub few-rows : commits ≤ 4000
-  pub rows-are : take commits rows ≡ rowsIn es (commitsIn (runOf plan es .history))
-  pub end-is : end ≡ endOf (runOf plan es .refusal) (line (length (runOf plan es .history))) count
+pub record RunIs (plan : Plan) (es : List Entry) (line : ℕ → ℕ) (count : ℕ) (ran : Ran) (x : Lent) : Type 0 where
+  pub machine-is :
+      machineOf (ran .cells) (ran .works) (x .store) (x .addr) (x .old) (x .new) ≡ runOf plan es .machine
+  pub few-rows : ran .commits ≤ 4000
+  pub rows-are : take (ran .commits) (x .rows) ≡ rowsIn es (commitsIn (runOf plan es .history))
+  pub end-is : ran .end ≡ endOf (runOf plan es .refusal) (line (length (runOf plan es .history))) count
 
 -- The state before the first entry.
 pub record Opened (plan : Plan) (state : State) : Type 0 where
@@ -108,15 +110,13 @@ pub record Begun (plan : Plan) (progress : Progress) : Type 0 where
 abbrev pub emptyRows : List (List ℕ)
 emptyRows = replicate 16 (replicate 16 0)
 
--- A run is about to start: the plan is sound and stands in these arrays, the entries are few, the store has the opening
--- memory, and the rows are empty.
-pub record Starts
-    (plan : Plan) (sizes : Sizes) (updates : ℕ) (cards priorities counts kinds targets sources amounts : List ℕ)
-    (es : List Entry) (store : List ℕ) (addr old new rows : List (List ℕ)) : Type 0 where
-  pub stored : Stored plan sizes updates cards priorities counts kinds targets sources amounts
+-- A run is about to start: the plan is sound, the entries are few, the store has the opening memory, and the rows are
+-- empty.
+pub record Starts (plan : Plan) (es : List Entry) (x : Lent) : Type 0 where
+  pub sound : Sound plan
   pub few : length es ≤ 4000
-  pub store-is : store ≡ openingStore plan
-  pub addr-is : addr ≡ emptyRows
-  pub old-is : old ≡ emptyRows
-  pub new-is : new ≡ emptyRows
-  pub all-rows : length rows ≡ 4000
+  pub store-is : x .store ≡ openingStore plan
+  pub addr-is : x .addr ≡ emptyRows
+  pub old-is : x .old ≡ emptyRows
+  pub new-is : x .new ≡ emptyRows
+  pub all-rows : length (x .rows) ≡ 4000

@@ -1,16 +1,17 @@
-// One entry of a run, and the entries of a text, run one after another from where they stand in it.
+// One entry of a run, and the entries of a text, run one after another out of their table.
 ghost use mathlib.Core.Path.{_≡_};
 ghost use mathlib.Core.List.{List, [], _∷_, _++_};
 ghost use Prim.Native.Nat.{_≤_, _<_};
 ghost use Rattle.format.specs.Plan.{Plan};
-ghost use Rattle.format.specs.Reading.{entriesOf};
-ghost use Rattle.entries.specs.EntryLines.{linesFrom};
+ghost use Rattle.layout.specs.PlanTable.{planIn};
+ghost use Rattle.layout.specs.EntryTable.{listedIn};
 ghost use Rattle.runs.specs.Runs.{lineIn};
 ghost use Rattle.running.specs.Rans.{going, progressBy, ranOf};
-ghost use Rattle.running.specs.Schedules.{entriesIn, Opened, Begun, Enters, Reached, Starts, RunIs};
-use entries::EntryAt;
+ghost use Rattle.running.specs.Schedules.{entriesIn, lent, Opened, Begun, Enters, Reached, Starts, RunIs};
 use format::Entry;
 use format::Sizes;
+use layout::ENTRY_PLACES;
+use layout::PLAN_PLACES;
 use machine::State;
 use model::Cells;
 use model::Judgement;
@@ -238,91 +239,76 @@ pub fn enter<'a, 'b>(
     }
 }
 
-// The entries of a text from a place on, whose line has this number, run one after another. The first refusal ends it.
-pub fn run_entries<'a, 'b>(
-    text: &[u8],
-    first: usize,
-    line: usize,
+// The first entries of their table, as many as `count` says, run one after another. The first refusal ends the run;
+// acceptance gives `lines`.
+pub fn run_entries<'b>(
+    plan: &[u32; PLAN_PLACES],
+    entries: &[u32; ENTRY_PLACES],
+    count: usize,
     lines: usize,
-    sizes: Sizes,
-    updates: usize,
-    cards: &'a [u8; 16],
-    priorities: &'a [u8; 16],
-    counts: &'a [u8; 32],
-    kinds: &'a [u8; 512],
-    targets: &'a [u8; 512],
-    sources: &'a [u8; 512],
-    amounts: &'a [u32; 512],
     store: &'b mut [u32],
     addr: &'b mut [[u8; 16]; 16],
     old: &'b mut [[u8; 16]; 16],
     new: &'b mut [[u8; 16]; 16],
     commits: &'b mut [[u32; 3]; 4000],
 ) -> Ran
-    requires { ⌜ line ≤ 65537 ⌝ }
-    requires { ⌜ ((plan : Plan) × Starts plan sizes updates (now cards) (now priorities) (now counts) (now kinds)
-        (now targets) (now sources) (now amounts)
-        (entriesIn (entriesOf (sizes .words) line (linesFrom (now text) first))) (now store) (now addr) (now old)
-        (now new) (now commits)) ⌝ }
-    ensures { λ r. ⌜ ((plan : Plan) → Starts plan sizes updates (now (cards .entry)) (now (priorities .entry))
-        (now (counts .entry)) (now (kinds .entry)) (now (targets .entry)) (now (sources .entry)) (now (amounts .entry))
-        (entriesIn (entriesOf (sizes .words) line (linesFrom (now (text .entry)) first)))
-        (now (store .entry)) (now (addr .entry)) (now (old .entry)) (now (new .entry))
-        (now (commits .entry))
-        → RunIs plan (entriesIn (entriesOf (sizes .words) line (linesFrom (now (text .entry)) first)))
-        (lineIn (entriesOf (sizes .words) line (linesFrom (now (text .entry)) first))) lines
-        (r .cells) (r .works) (r .commits) (r .end) (now (store .exit)) (now (addr .exit)) (now (old .exit))
-        (now (new .exit)) (now (commits .exit))) ⌝ }
+    requires { ⌜ Starts (planIn (now plan)) (entriesIn (listedIn count (now entries)))
+        (lent (now store) (now addr) (now old) (now new) (now commits)) ⌝ }
+    ensures { λ r. ⌜ RunIs (planIn (now (plan .entry))) (entriesIn (listedIn count (now (entries .entry))))
+        (lineIn (listedIn count (now (entries .entry)))) lines r
+        (lent (now (store .exit)) (now (addr .exit)) (now (old .exit)) (now (new .exit)) (now (commits .exit))) ⌝ }
 {
+    let arrays = plan_arrays::arrays_of(plan);
+    let sizes = arrays.sizes;
+    let updates = arrays.updates;
+    let cards = arrays.cards;
+    let priorities = arrays.priorities;
+    let counts = arrays.counts;
+    let kinds = arrays.kinds;
+    let targets = arrays.targets;
+    let sources = arrays.sources;
+    let amounts = arrays.amounts;
     let opening = begin(sizes);
     let mut state = opening.state;
     let mut works = opening.works;
-    let mut at = first;
-    let mut number = line;
-    while at < text.len() {
-        match entries::entry_at(text, at) {
-            EntryAt::Is(e, next) => {
-                let turned = turn(
-                    state,
-                    works,
-                    e,
-                    sizes,
-                    updates,
-                    cards,
-                    priorities,
-                    counts,
-                    kinds,
-                    targets,
-                    sources,
-                    amounts,
-                    store,
-                    addr,
-                    old,
-                    new,
-                    commits,
-                );
-                let job = turned.job;
-                let work = turned.work;
-                let halt = turned.halt;
-                state = turned.state;
-                works[job] = work;
-                if let Halt::Refused(r) = halt {
-                    let cells = state.cells;
-                    return Ran {
-                        cells,
-                        works,
-                        commits: state.commits,
-                        end: End::Refused(r, number),
-                    };
-                }
-                at = next;
-                number += 1;
-            }
-            EntryAt::Other(next) => {
-                at = next;
-                number += 1;
-            }
+    let mut i = 0;
+    while i < count {
+        let e = layout::entry_at(entries, i);
+        let turned = turn(
+            state,
+            works,
+            e,
+            sizes,
+            updates,
+            &cards,
+            &priorities,
+            &counts,
+            &kinds,
+            &targets,
+            &sources,
+            &amounts,
+            store,
+            addr,
+            old,
+            new,
+            commits,
+        );
+        let job = turned.job;
+        let work = turned.work;
+        let halt = turned.halt;
+        state = turned.state;
+        works[job] = work;
+        if let Halt::Refused(r) = halt {
+            let cells = state.cells;
+            let line = layout::line_at(entries, i);
+            return Ran {
+                cells,
+                works,
+                commits: state.commits,
+                end: End::Refused(r, line),
+            };
         }
+        i += 1;
     }
     let cells = state.cells;
     Ran {

@@ -7,7 +7,7 @@ ghost use Prim.Native.Nat.{ℕ, _≤_, _<_, _/_};
 ghost use lib.Dec.{eqb};
 ghost use lib.ListN.{length, getD};
 ghost use Rattle.format.specs.Plan.{Plan};
-ghost use Rattle.format.specs.Stored.{moveOf};
+ghost use Rattle.layout.specs.PlanTable.{moveOf};
 ghost use Rattle.model.specs.Memory.{sum as sumOf};
 ghost use Rattle.model.specs.Moves.{accesses as accessesOf, wordOf};
 ghost use Rattle.model.specs.Moves.{written as writtenBy, afterList, onward as onwardFrom};

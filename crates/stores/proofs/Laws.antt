@@ -9,7 +9,7 @@ use native.Mathlib.Numerals.{add-one}
 use native.Mathlib.Omega.{arith}
 use lib.ListN.{length, getD, set, drop, length-drop}
 use lib.Seq.{paste, drop-cons, set-at, append-snoc}
-use Rattle.format.specs.Stored.{table}
+use Rattle.format.specs.Plan.{table}
 use Rattle.format.proofs.Tables.{length-table}
 use Rattle.model.specs.Ranges.{mostNumbers}
 use Rattle.model.specs.Steps.{inFirstPlaces}

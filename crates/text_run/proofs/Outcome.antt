@@ -28,7 +28,8 @@ use Rattle.runs.specs.Runs.{reported, outcomeOf}
 use Rattle.stores.specs.Carried.{machineOf}
 use Rattle.report.specs.Writing.{rowLines, blocksBytes, openBytes, opensBytes, reportBytes}
 use Rattle.running.specs.Rows.{rowIn, rowsIn}
-use Rattle.running.specs.Schedules.{RunIs}
+use Rattle.running.specs.declared.Ran.{Ran}
+use Rattle.running.specs.Schedules.{Lent, RunIs}
 
 -- The report's commit lines are those of the rows.
 commit-lines : (es : List Entry) (cs : List Commit) → rowLines (rowsIn es cs) ≡ commitLines es cs
@@ -51,12 +52,21 @@ open-lines plan cells works store addr old new few all =
     (there (cells .stat) k (pos 0) (pos (plan .sizes .jobs)) (omega (arith, all))))
 
 -- A run that has ended.
-module _ {plan : Plan} {es : List Entry} {line : ℕ → ℕ} {count : ℕ} {cells : Cells} {works : List Working}
-    {commits : ℕ} {end : End} {store : List ℕ} {addr old new rows : List (List ℕ)} (ok : Sound plan)
-    (ran : RunIs plan es line count cells works commits end store addr old new rows) where
+module _ {plan : Plan} {es : List Entry} {line : ℕ → ℕ} {count : ℕ} {r : Ran} {x : Lent} (ok : Sound plan)
+    (ran : RunIs plan es line count r x) where
+  -- The cells, the end and the store.
+  abbrev cells : Cells
+  cells = r .cells
+
+  abbrev end : End
+  end = r .end
+
+  abbrev store : List ℕ
+  store = x .store
+
   -- The state of the machine.
   abbrev m : Machine
-  m = machineOf cells works store addr old new
+  m = machineOf cells (r .works) store (x .addr) (x .old) (x .new)
 
   -- Every array has its length.
   whole-arrays : Sized m
@@ -81,33 +91,34 @@ module _ {plan : Plan} {es : List Entry} {line : ℕ → ℕ} {count : ℕ} {cel
   pub low-stat : (k : ℕ) → StatusIn 16 (getD (cells .stat) k (pos 0))
   low-stat k = wider (getD (cells .stat) k (pos 0)) (ranged .cells .stat k)
     where
-      wider : (x : ℤ) → StatusIn (plan .sizes .jobs) x → StatusIn 16 x
+      wider : (y : ℤ) → StatusIn (plan .sizes .jobs) y → StatusIn 16 y
       wider (pos w) h = omega (arith, h, ok .jobs)
       wider (negsuc a) h = h
 
   -- What is written is the report.
   pub the-outcome :
-      reported end (reportBytes (plan .sizes) cells works store rows commits (endNumber end) (endLine end))
+      reported end (reportBytes (plan .sizes) cells (r .works) store (x .rows) (r .commits) (endNumber end)
+      (endLine end))
       ≡ outcomeOf plan es line count
   unfolding report
   the-outcome =
       ap
       (λ l.
       reported end (rowLines l
-      ++ (blocksBytes (plan .sizes) (cells .bank) store ++ (opensBytes (plan .sizes .jobs) (cells .stat) works ++
+      ++ (blocksBytes (plan .sizes) (cells .bank) store ++ (opensBytes (plan .sizes .jobs) (cells .stat) (r .works) ++
       lastLine end))))
       (ran .rows-are)
       ∙ ap
       (λ l.
       reported end (l
-      ++ (blocksBytes (plan .sizes) (cells .bank) store ++ (opensBytes (plan .sizes .jobs) (cells .stat) works ++
+      ++ (blocksBytes (plan .sizes) (cells .bank) store ++ (opensBytes (plan .sizes .jobs) (cells .stat) (r .works) ++
       lastLine end))))
       (commit-lines es (commitsIn (runOf plan es .history)))
       ∙ ap
       (λ l. reported end (committed ++ (blocksBytes (plan .sizes) (cells .bank) store ++ (l ++ lastLine end))))
-      (open-lines plan cells works store addr old new (ok .jobs) (whole-arrays .stat))
+      (open-lines plan cells (r .works) store (x .addr) (x .old) (x .new) (ok .jobs) (whole-arrays .stat))
       ∙ ap
-      (λ x. reported end (committed ++ (blockLines plan x ++ (openLines plan x ++ lastLine end))))
+      (λ y. reported end (committed ++ (blockLines plan y ++ (openLines plan y ++ lastLine end))))
       (ran .machine-is)
       ∙ ap
       (λ e.

@@ -1,12 +1,13 @@
 // A whole text, run: it is read, its entries run one after another, and the report is written into the lent buffer.
 ghost use mathlib.Core.Path.{_≡_};
+ghost use mathlib.Core.List.{List};
 ghost use Prim.Native.Nat.{ℕ, _≤_, _<_};
 ghost use lib.IntN.{pos};
 ghost use lib.ListN.{length, getD};
 ghost use Rattle.format.specs.Faults.{numberOf};
 ghost use Rattle.format.specs.Sound.{Sound};
-ghost use Rattle.format.specs.Reading.{reading};
-ghost use Rattle.format.specs.Stored.{readingOf};
+ghost use Rattle.layout.specs.PlanTable.{planIn, emptyPlan};
+ghost use Rattle.layout.specs.EntryTable.{entryPlaces};
 ghost use Rattle.model.specs.Entries.{refusalNumber as numberInTable};
 ghost use Rattle.model.specs.Machine.{openingStore};
 ghost use Rattle.model.specs.Ranges.{StatusIn};
@@ -14,12 +15,13 @@ ghost use Rattle.runs.specs.Report.{endNumber, endLine};
 ghost use Rattle.runs.specs.Runs.{reported, runText};
 ghost use Rattle.report.specs.Writing.{reportBytes};
 ghost use Rattle.running.specs.Schedules.{emptyRows};
-ghost use Rattle.text_run.specs.Finishing.{thePlan, WrittenOut, emptyStore};
+ghost use Rattle.text_run.specs.Finishing.{Reads, WrittenOut, emptyStore};
 use format::Fault;
 use format::Form;
 use format::Sizes;
-use format::StoredPlan;
 use format::Verdict;
+use layout::ENTRY_PLACES;
+use layout::PLAN_PLACES;
 use model::Refusal;
 use report::Written;
 use running::Ran;
@@ -129,25 +131,23 @@ pub fn finish(
 }
 
 // The opening memory is put into the store, behind the copy blocks.
-pub fn open_store(plan: StoredPlan, store: &mut [u32])
-    requires { ⌜ Sound (thePlan plan) × (now store ≡ emptyStore) ⌝ }
-    ensures { λ _. ⌜ now (store .exit) ≡ openingStore (thePlan plan) ⌝ }
+pub fn open_store(plan: &[u32; PLAN_PLACES], store: &mut [u32])
+    requires { ⌜ Sound (planIn (now plan)) × (now store ≡ emptyStore) ⌝ }
+    ensures { λ _. ⌜ now (store .exit) ≡ openingStore (planIn (now (plan .entry))) ⌝ }
 {
-    let sizes = plan.sizes;
-    let words = plan.words;
+    let sizes = layout::sizes(plan);
     let memory = sizes.blocks * sizes.words;
     let start = sizes.jobs * sizes.copies * sizes.words;
-    opening::put_words(store, start, &words[..memory]);
+    opening::put_words(store, start, plan, memory);
 }
 
 // An accepted text is run in arrays that are lent: the store is zero until the opening memory is put in, and the rows
-// are empty. The entries stand from a place of the text on, whose line has this number.
+// are empty.
 fn run_lent(
-    text: &[u8],
-    first: usize,
-    line: usize,
+    plan: &[u32; PLAN_PLACES],
+    entries: &[u32; ENTRY_PLACES],
+    count: usize,
     lines: usize,
-    plan: StoredPlan,
     store: &mut [u32],
     addr: &mut [[u8; 16]; 16],
     old: &mut [[u8; 16]; 16],
@@ -155,56 +155,28 @@ fn run_lent(
     commits: &mut [[u32; 3]; 4000],
     buffer: &mut [u8],
 ) -> Finished
-    requires { ⌜ (line ≤ 65537)
-        × (readingOf (Verdict.Accepted lines) plan first line (now text) ≡ reading Form.Schedule (now text)) ⌝ }
+    requires { ⌜ ((text : List ℕ) × Reads text (now plan) (now entries) count lines) ⌝ }
     requires { ⌜ (now store ≡ emptyStore) × ((now addr ≡ emptyRows) × ((now old ≡ emptyRows)
         × ((now new ≡ emptyRows) × (length (now commits) ≡ 4000)))) ⌝ }
-    ensures { λ r. ⌜ WrittenOut (runText (now (text .entry))) (now (buffer .entry)) r (now (buffer .exit)) ⌝ }
+    ensures { λ r. ⌜ ((text : List ℕ) → Reads text (now (plan .entry)) (now (entries .entry)) count lines
+        → WrittenOut (runText text) (now (buffer .entry)) r (now (buffer .exit))) ⌝ }
 {
-    let sizes = plan.sizes;
-    let cards = plan.cards;
-    let priorities = plan.priorities;
-    let counts = plan.counts;
-    let kinds = plan.kinds;
-    let targets = plan.targets;
-    let sources = plan.sources;
-    let amounts = plan.amounts;
     open_store(plan, store);
-    let ran = running::run_entries(
-        text,
-        first,
-        line,
-        lines,
-        sizes,
-        plan.updates,
-        &cards,
-        &priorities,
-        &counts,
-        &kinds,
-        &targets,
-        &sources,
-        &amounts,
-        store,
-        addr,
-        old,
-        new,
-        commits,
-    );
-    finish(buffer, sizes, ran, store, commits)
+    let ran = running::run_entries(plan, entries, count, lines, store, addr, old, new, commits);
+    finish(buffer, layout::sizes(plan), ran, store, commits)
 }
 
 // An accepted text is run. The arrays are made here, and lent.
 fn run_plan(
-    text: &[u8],
-    first: usize,
-    line: usize,
+    plan: &[u32; PLAN_PLACES],
+    entries: &[u32; ENTRY_PLACES],
+    count: usize,
     lines: usize,
-    plan: StoredPlan,
     buffer: &mut [u8],
 ) -> Finished
-    requires { ⌜ (line ≤ 65537)
-        × (readingOf (Verdict.Accepted lines) plan first line (now text) ≡ reading Form.Schedule (now text)) ⌝ }
-    ensures { λ r. ⌜ WrittenOut (runText (now (text .entry))) (now (buffer .entry)) r (now (buffer .exit)) ⌝ }
+    requires { ⌜ ((text : List ℕ) × Reads text (now plan) (now entries) count lines) ⌝ }
+    ensures { λ r. ⌜ ((text : List ℕ) → Reads text (now (plan .entry)) (now (entries .entry)) count lines
+        → WrittenOut (runText text) (now (buffer .entry)) r (now (buffer .exit))) ⌝ }
 {
     let mut store = [0u32; 2304];
     let empty = [0u8; 16];
@@ -214,11 +186,10 @@ fn run_plan(
     let none = [0u32; 3];
     let mut commits = [none; 4000];
     run_lent(
-        text,
-        first,
-        line,
-        lines,
         plan,
+        entries,
+        count,
+        lines,
         &mut store,
         &mut addr,
         &mut old,
@@ -228,18 +199,32 @@ fn run_plan(
     )
 }
 
-// Runs a text. The whole text is checked for 1 to 10 before any entry runs.
-pub fn run_text(text: &[u8], buffer: &mut [u8]) -> Finished
+// A text is read into empty tables, and run. The whole text is checked for 1 to 10 before any entry runs.
+fn run_read(
+    text: &[u8],
+    plan: &mut [u32; PLAN_PLACES],
+    entries: &mut [u32; ENTRY_PLACES],
+    buffer: &mut [u8],
+) -> Finished
+    requires { ⌜ (now plan ≡ emptyPlan) × (length (now entries) ≡ entryPlaces) ⌝ }
     ensures { λ r. ⌜ WrittenOut (runText (now (text .entry))) (now (buffer .entry)) r (now (buffer .exit)) ⌝ }
 {
-    let parsed = reader::read(text, Form::Schedule);
+    let parsed = reader::read(text, Form::Schedule, plan, entries);
     let verdict = parsed.verdict;
-    let plan = parsed.plan;
     match verdict {
         Verdict::Refused(fault, line) => Finished {
             end: End::Faulty(fault, line),
             length: 0,
         },
-        Verdict::Accepted(lines) => run_plan(text, parsed.first, parsed.line, lines, plan, buffer),
+        Verdict::Accepted(lines) => run_plan(plan, entries, parsed.entries, lines, buffer),
     }
+}
+
+// Runs a text. The tables are made here, and lent.
+pub fn run_text(text: &[u8], buffer: &mut [u8]) -> Finished
+    ensures { λ r. ⌜ WrittenOut (runText (now (text .entry))) (now (buffer .entry)) r (now (buffer .exit)) ⌝ }
+{
+    let mut plan = [0u32; PLAN_PLACES];
+    let mut entries = [0u32; ENTRY_PLACES];
+    run_read(text, &mut plan, &mut entries, buffer)
 }

@@ -12,8 +12,7 @@ use lib.Dec.{eqb}
 use lib.ListN.{getD, set, length-set}
 use lib.Seq.{getD-set-same, getD-set-other}
 use Rattle.format.specs.declared.Sizes.{Sizes}
-use Rattle.format.specs.Plan.{Plan, jobIn}
-use Rattle.format.specs.Stored.{table}
+use Rattle.format.specs.Plan.{Plan, jobIn, table}
 use Rattle.model.specs.declared.Working.{Working}
 use Rattle.model.specs.Places.{isActive}
 use Rattle.model.specs.Working.{noWork, opening}

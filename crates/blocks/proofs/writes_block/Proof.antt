@@ -6,10 +6,9 @@ use native.Mathlib.Omega.{arith}
 use borrow.Author.Needs.{needs}
 use borrow.Author.Tests.{eq-eqb, ne-eqb}
 use lib.Dec.{eqb}
-use lib.ListN.{getD}
 use denote.Ref.{now}
-use Rattle.format.specs.Plan.{blockOf}
-use Rattle.format.specs.Stored.{table}
+use Rattle.format.specs.Plan.{blockOf, table}
+use Rattle.layout.specs.PlanTable.{targetAt}
 use Rattle.line.specs.Steps.{writesTo}
 use Rattle.line.proofs.Search.{found, none-more}
 use Rattle.blocks.proofs.writes_block.Statement.{statement}
@@ -20,31 +19,31 @@ abbrev inBlock : ℕ → ℕ → ℕ → Bool
 inBlock size block w = eqb (blockOf size w) block
 
 abbrev Inv-loop : tie.InvT-loop
-Inv-loop targets from n size block i₀ i =
-    (i ≤ n) × (writesTo size block (table i (λ k. getD targets (from + k) 0)) ≡ false)
+Inv-loop plan from n size block i₀ i =
+    (i ≤ n) × (writesTo size block (table i (λ k. targetAt plan (from + k))) ≡ false)
 
 abbrev μ-loop : tie.MeasureT-loop
-μ-loop targets from n size block i₀ i = n - i
+μ-loop plan from n size block i₀ i = n - i
 
 loop-holds : tie.Need-loop-holds Inv-loop μ-loop
 loop-holds c = (omega arith, refl)
 
-add-block-of : tie.Need-add-block-of Inv-loop μ-loop
-add-block-of c = omega arith
+add-target : tie.Need-add-target Inv-loop μ-loop
+add-target c = omega arith
 
-element-copy-out-block-of : tie.Need-element-copy-out-block-of Inv-loop μ-loop
-element-copy-out-block-of c = omega arith
+target-requires : tie.Need-target-requires Inv-loop μ-loop
+target-requires c κs = omega arith
 
-block-of-requires : tie.Need-block-of-requires Inv-loop μ-loop
-block-of-requires c κs = search needs
+div-if1 : tie.Need-div-if1 Inv-loop μ-loop
+div-if1 c = search needs
 
 returns : tie.Need-returns Inv-loop μ-loop
 returns c =
-    let l = c .before .before .before .before .loop in
-    let a = c .before .before .before .before .before .args in
+    let l = c .before .before .before .loop in
+    let a = c .before .before .before .before .args in
     sym
-    (found (inBlock (a .size) (a .block)) (λ k. getD (now (a .targets)) (a .from + k) 0) (a .n) (l .i) (omega arith)
-    (rw (← c .before .block-of .ensures) (eq-eqb _ _ (c .if1 .taken))))
+    (found (inBlock (a .size) (a .block)) (λ k. targetAt (now (a .plan)) (a .from + k)) (a .n) (l .i) (omega arith)
+    (rw (← c .before .target .ensures) (eq-eqb _ _ (c .if1 .taken))))
 
 add-i : tie.Need-add-i Inv-loop μ-loop
 add-i c = omega arith
@@ -54,11 +53,11 @@ loop-less c = omega arith
 
 loop-again : tie.Need-loop-again Inv-loop μ-loop
 loop-again c =
-    let l = c .before .before .before .before .loop in
-    let a = c .before .before .before .before .before .args in (
+    let l = c .before .before .before .loop in
+    let a = c .before .before .before .before .args in (
       omega arith,
-      none-more (inBlock (a .size) (a .block)) (λ k. getD (now (a .targets)) (a .from + k) 0) (l .i) (l .inv .1)
-          (rw (← c .before .block-of .ensures) (ne-eqb _ _ (c .if1 .left))),
+      none-more (inBlock (a .size) (a .block)) (λ k. targetAt (now (a .plan)) (a .from + k)) (l .i) (l .inv .1)
+          (rw (← c .before .target .ensures) (ne-eqb _ _ (c .if1 .left))),
     )
 
 returns-2 : tie.Need-returns-2 Inv-loop μ-loop
@@ -74,9 +73,9 @@ writes-block-spec =
     Inv-loop
     μ-loop
     loop-holds
-    add-block-of
-    element-copy-out-block-of
-    block-of-requires
+    add-target
+    target-requires
+    div-if1
     returns
     add-i
     loop-less

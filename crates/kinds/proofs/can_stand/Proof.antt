@@ -1,6 +1,5 @@
 -- `can_stand` meets its contract, by what the functions for the kinds ensure. Assumes nothing.
 use borrow.Author.Needs.{needs}
-use Rattle.line.proofs.Tables.{lacks-jobs}
 use Rattle.kinds.proofs.can_stand.Statement.{statement}
 use Rattle.kinds.proofs.can_stand.Tie as tie
 
@@ -9,6 +8,9 @@ enum-told c = search needs
 
 enum-told-2 : tie.Need-enum-told-2
 enum-told-2 c = search needs
+
+job-stands-requires : tie.Need-job-stands-requires
+job-stands-requires c κs = search needs
 
 enum-told-3 : tie.Need-enum-told-3
 enum-told-3 c = search needs
@@ -56,44 +58,40 @@ enum-told-10 : tie.Need-enum-told-10
 enum-told-10 c = search needs
 
 returns : tie.Need-returns
-returns c = λ a. rw (c .before .enum-told .given .1)
+returns c = rw (c .before .enum-told .given .1)
 
 returns-2 : tie.Need-returns-2
-returns-2 c = λ a. rw (c .before .before .enum-told2 .given .1, lacks-jobs _ a)
+returns-2 c =
+    rw (c .before .enum-told2 .given .1) (c .job-stands .ensures (c .before .before .before .args .form))
 
 returns-3 : tie.Need-returns-3
 returns-3 c =
-    let form = c .before .before .before .before .args .form in
-    λ a. rw (c .before .enum-told3 .given .1) (c .block-stands .ensures form a)
+    rw (c .before .enum-told3 .given .1) (c .block-stands .ensures (c .before .before .before .args .form))
 
 returns-4 : tie.Need-returns-4
 returns-4 c =
-    let form = c .before .before .before .before .args .form in
-    λ a. rw (c .before .enum-told4 .given .1) (c .update-stands .ensures form a)
+    rw (c .before .enum-told4 .given .1) (c .update-stands .ensures (c .before .before .before .args .form))
 
 returns-5 : tie.Need-returns-5
 returns-5 c =
-    let form = c .before .before .before .before .args .form in
-    λ a. rw (c .before .enum-told5 .given .1) (c .move-stands .ensures form a)
+    rw (c .before .enum-told5 .given .1) (c .move-stands .ensures (c .before .before .before .args .form))
 
 returns-6 : tie.Need-returns-6
 returns-6 c =
-    let form = c .before .before .before .before .args .form in
-    λ a. rw (c .before .enum-told6 .given .1) (c .move-stands2 .ensures form a)
+    rw (c .before .enum-told6 .given .1) (c .move-stands2 .ensures (c .before .before .before .args .form))
 
 returns-7 : tie.Need-returns-7
 returns-7 c =
-    let form = c .before .before .before .before .args .form in
-    λ a. rw (c .before .enum-told7 .given .1) (c .move-stands3 .ensures form a)
+    rw (c .before .enum-told7 .given .1) (c .move-stands3 .ensures (c .before .before .before .args .form))
 
 returns-8 : tie.Need-returns-8
-returns-8 c = λ a. rw (c .before .enum-told8 .given .1) (c .entry-stands .ensures a)
+returns-8 c = rw (c .before .enum-told8 .given .1) (c .entry-stands .ensures)
 
 returns-9 : tie.Need-returns-9
-returns-9 c = λ a. rw (c .before .enum-told9 .given .1) (c .entry-stands2 .ensures a)
+returns-9 c = rw (c .before .enum-told9 .given .1) (c .entry-stands2 .ensures)
 
 returns-10 : tie.Need-returns-10
-returns-10 c = λ a. rw (c .enum-told10 .given .1)
+returns-10 c = rw (c .enum-told10 .given .1)
 
 pub can-stand-spec : {M : Type 1} → statement M
 can-stand-spec =
@@ -101,6 +99,7 @@ can-stand-spec =
     (tie.spec
     enum-told
     enum-told-2
+    job-stands-requires
     enum-told-3
     block-stands-requires
     enum-told-4

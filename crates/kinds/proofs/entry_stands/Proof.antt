@@ -13,10 +13,10 @@ enum-told-2 : tie.Need-enum-told-2
 enum-told-2 c = search needs
 
 returns : tie.Need-returns
-returns c = λ a. rw (c .before .enum-told .given .1) (c .laid-out .ensures a)
+returns c = rw (c .before .enum-told .given .1) (c .laid-out .ensures)
 
 returns-2 : tie.Need-returns-2
-returns-2 c = λ a. rw (c .enum-told2 .given .1)
+returns-2 c = search needs
 
 pub entry-stands-spec : {M : Type 1} → statement M
 entry-stands-spec = tie.close (tie.spec enum-told laid-out-requires enum-told-2 returns returns-2)

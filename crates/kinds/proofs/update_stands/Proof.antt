@@ -7,10 +7,10 @@ laid-out-requires : tie.Need-laid-out-requires
 laid-out-requires c κs = search needs
 
 returns : tie.Need-returns
-returns c = λ form a. rw (← c .before .before .laid-out .ensures a, c .before .if1 .taken)
+returns c = λ form. rw (← c .before .before .laid-out .ensures, c .before .if1 .taken)
 
 returns-2 : tie.Need-returns-2
-returns-2 c = λ form a. rw (← c .before .laid-out .ensures a, c .if1 .left)
+returns-2 c = λ form. rw (← c .before .laid-out .ensures, c .if1 .left)
 
 pub update-stands-spec : {M : Type 1} → statement M
 update-stands-spec = tie.close (tie.spec laid-out-requires returns returns-2)

@@ -46,13 +46,13 @@ use denote.Triple.Table.{entered, cited}
 use denote.Triple.Walked.{says, Stays, walkOf, Walks, ends-at, walked, walk-meets}
 use Rattle.format.specs.declared.Entry.{Entry}
 use Rattle.format.specs.declared.Sizes.{Sizes}
-use Rattle.format.specs.declared.StoredPlan.{StoredPlan}
+use Rattle.plan_arrays.specs.declared.PlanArrays.{PlanArrays}
 use Rattle.format.specs.declared.Verdict.{Verdict}
 use Rattle.format.proofs.Entry as E
 use Rattle.format.proofs.Sizes as Z
 use Rattle.format.proofs.Sizes.Laws as Z′
-use Rattle.format.proofs.StoredPlan as P
-use Rattle.format.proofs.StoredPlan.Laws as P′
+use Rattle.plan_arrays.proofs.PlanArrays as P
+use Rattle.plan_arrays.proofs.PlanArrays.Laws as P′
 use Rattle.format.proofs.Verdict as Vd
 use Rattle.format.proofs.Verdict.Laws as Vd′
 use Rattle.runs.specs.Runs.{runSchedule, left}
@@ -125,7 +125,7 @@ module _ {M : Type 1} (𝓤 : URA M) (H : Heap 𝓤) (A : Atoms 𝓤) (W : Given
   verdict-typed : (x : Verdict) → Is Vd.the-row x (v ∷ []) → T (hasTy Vd′.mir v) × WT v
   verdict-typed x is = EL.lawful Vd.the-type Vd′.the-laws 𝓤 H A W tt .typed x _ is .0
 
-  plan-typed : (x : StoredPlan) → Is P.the-row x (v ∷ []) → T (hasTy P′.mir v) × WT v
+  plan-typed : (x : PlanArrays) → Is P.the-row x (v ∷ []) → T (hasTy P′.mir v) × WT v
   plan-typed x is = LL.lawful P.the-type P′.the-laws 𝓤 H A W .typed x _ is .0
 
   sizes-typed : (x : Sizes) → Is Z.the-row x (v ∷ []) → T (hasTy Z′.mir v) × WT v
@@ -134,7 +134,7 @@ module _ {M : Type 1} (𝓤 : URA M) (H : Heap 𝓤) (A : Atoms 𝓤) (W : Given
   ended-typed : (x : Ended) → Is N.the-row x (v ∷ []) → T (hasTy N′.mir v) × WT v
   ended-typed x is = LL.lawful N.the-type N′.the-laws 𝓤 H A W .typed x _ is .0
 
--- The types of the fields of a `Begun`, and of a stored plan.
+-- The types of the fields of a `Begun`, and of the arrays of a plan.
 abbrev begunTs : Tys
 begunTs = tcons Vd′.mir (tcons P′.mir (tcons (tyInt w64) (tcons K′.mir tnil)))
 
@@ -145,8 +145,9 @@ abbrev wordsTs : ℕ → Tys → Tys
 wordsTs n τs = tcons (tyArray (tyInt w32) n) τs
 
 abbrev arraysTs : Tys
-arraysTs = bytesTs 16 (bytesTs 16 (wordsTs 256
-    (bytesTs 32 (bytesTs 512 (bytesTs 512 (bytesTs 512 (wordsTs 512 tnil)))))))
+arraysTs =
+    bytesTs 16
+    (bytesTs 16 (bytesTs 32 (bytesTs 512 (bytesTs 512 (bytesTs 512 (wordsTs 512 tnil))))))
 
 abbrev planTs : Tys
 planTs = tcons Z′.mir (tcons (tyInt w64) arraysTs)

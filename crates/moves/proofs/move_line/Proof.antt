@@ -1,111 +1,128 @@
--- `move_line` judges a move by the rows 5, 9 and 10 and stores it behind those of the last update. Assumes nothing.
-use Prim.Native.Nat.{ℕ, _+_, _*_, _<_}
-use mathlib.Core.Path.{_≡_, sym, _∙_, ap, ap₂}
-use native.Mathlib.Omega.{arith}
+-- `move_line` judges a move by the rows 5, 9 and 10 and puts it behind those of the last update. Assumes nothing.
+use Prim.Native.Nat.{ℕ, _+_, _-_, _*_, _≤_, _<_}
+use mathlib.Core.Path.{_≡_, sym, _∙_, ap, subst}
 use mathlib.Core.Bool.{cond}
-use mathlib.Core.List.{[], _∷_, _++_}
+use mathlib.Core.List.{List, [], _∷_, _++_}
 use mathlib.Core.Option.{some}
-use lib.ListN.{length, getD}
-use Prim.Native.Nat.{_-_}
+use native.Mathlib.Omega.{arith}
+use lib.ListN.{length}
 use denote.Ref.{now}
 use Rattle.format.specs.declared.Fault.{Fault}
+use Rattle.format.specs.declared.Sizes.{Sizes}
 use Rattle.format.specs.declared.Move.{Move}
-use Rattle.format.specs.Plan.{blockOf, target, named, written}
+use Rattle.format.specs.Plan.{blockOf, target, named, written, table}
 use Rattle.format.specs.Faults.{someFrom}
 use Rattle.format.specs.Items.{move}
-use Rattle.format.specs.Stored.{Arrays, table, updateAt, sourceOf}
-use Rattle.line.specs.Steps.{moveItem, withMoves, writesTo}
+use Rattle.layout.specs.PlanTable.{sizesIn, updatesIn, countAt, targetAt, updateAt}
+use Rattle.line.specs.Steps.{Holds, moveItem, writesTo}
 use Rattle.line.proofs.Blocks.{below, some-words, blocks-more}
-use Rattle.line.proofs.Lines.{malformed, bad-move, move-read, move-read-into}
+use Rattle.line.proofs.Lines.{malformed, bad-move, move-read, count-is}
 use Rattle.line.proofs.Lines.{judged-many, judged-past, judged-blocks, judged-none}
 use borrow.Author.Needs.{needs}
 use Rattle.moves.proofs.move_line.Statement.{statement}
 use Rattle.moves.proofs.move_line.Tie as tie
 
 -- The function's start, from where the count of moves has been read.
-abbrev start : tie.After-wide → tie.Start
-start c = c .before .before .before .before .before .before .before
+abbrev start : tie.After-size-of → tie.Start
+start c = c .before .before .before .before .before .before .before .before .before
+
+-- The plan's table at the start.
+abbrev plan : tie.After-size-of → List ℕ
+plan c = now (start c .args .plan)
+
+-- What has been read holds.
+holds : (c : tie.After-size-of) → Holds (start c .args .p) (plan c)
+holds c = start c .pre .1 .1
 
 -- The move that was read.
-abbrev theMove : tie.After-wide → Move
-theMove c = c .before .before .before .before .read .given .0 .0
+abbrev theMove : tie.After-size-of → Move
+theMove c = c .before .before .before .before .before .before .read .given .0 .0
 
 -- The place of the last update.
-abbrev last : tie.After-wide → ℕ
-last c = start c .args .p .updates - 1
-
--- The arrays at the start, with any jobs and words.
-abbrev arrays : tie.After-wide → Arrays → Arrays
-arrays c a =
-    let s = start c .args in
-    withMoves a (now (s .counts)) (now (s .kinds)) (now (s .targets)) (now (s .sources)) (now (s .amounts))
-
--- The count of moves, from where the words that a move names have been judged.
-abbrev wide : tie.After-names-past → tie.After-wide
-wide c = c .before .before .before .before
+abbrev last : tie.After-size-of → ℕ
+last c = c .before .before .before .updates .result - 1
 
 -- What the line says.
-says : (c : tie.After-wide) → moveItem (start c .args .read) ≡ some (move (theMove c))
-says c = ap moveItem (c .before .before .before .before .read .given .1)
+says : (c : tie.After-size-of) → moveItem (start c .args .read) ≡ some (move (theMove c))
+says c = ap moveItem (c .before .before .before .before .before .before .read .given .1)
 
--- The last update has its place.
-placed : (c : tie.After-wide) → start c .args .p .updates ≡ last c + 1
-placed c = let some-update = start c .pre .0 in omega arith
+-- The last update has its place, which is below 32.
+low : (c : tie.After-updates) → c .updates .result - 1 < 32
+low c =
+    let s = c .before .before .before .before .before .before in
+    omega (arith, c .updates .ensures, s .pre .0, s .pre .1 .1 .ranged .updates-read)
+
+low-place : (c : tie.After-size-of) → last c < 32
+low-place c = low (c .before .before .before)
+
+placed : (c : tie.After-size-of) → updatesIn (plan c) ≡ last c + 1
+placed c = omega (arith, c .before .before .before .updates .ensures, start c .pre .0)
+
+-- How many moves it has.
+count : (c : tie.After-size-of) → c .size-of .result ≡ countAt (plan c) (last c)
+count c = c .size-of .ensures ∙ c .before .count .ensures
+
+-- Where the count of moves has been read, from where the words that a move names have been judged.
+abbrev moved : tie.After-names-past → tie.After-size-of
+moved c = c .before .before .before .before .before
+
+-- It has fewer than 16 moves.
+few-read : (c : tie.After-names-past) → moved c .size-of .result < 16
+few-read c = c .before .before .before .before .if1 .left
+
+few : (c : tie.After-names-past) → countAt (plan (moved c)) (last (moved c)) < 16
+few c = subst (λ n. n < 16) (count (moved c)) (few-read c)
+
+-- The sizes that were read.
+sized : (c : tie.After-names-past) → c .before .before .sizes .result ≡ sizesIn (plan (moved c))
+sized c = c .before .before .sizes .ensures
+
+words-low : (c : tie.After-names-past) → c .before .before .sizes .result .words ≤ 16
+words-low c = subst (λ (z : Sizes). z .words ≤ 16) (sym (sized c)) (holds (moved c) .ranged .words)
 
 -- The memory's size.
-abbrev words : tie.After-names-past → ℕ
-words c = start (wide c) .args .p .sizes .blocks * start (wide c) .args .p .sizes .words
+abbrev memory : tie.After-names-past → ℕ
+memory c = sizesIn (plan (moved c)) .blocks * sizesIn (plan (moved c)) .words
 
 -- Whether the move names a word past the memory.
-past : (c : tie.After-names-past) → someFrom (words c) (named (theMove (wide c))) ≡ c .names-past .result
-past c = rw (← c .before .memory-of .ensures .0) (sym (c .names-past .ensures))
+past : (c : tie.After-names-past) → someFrom (memory c) (named (theMove (moved c))) ≡ c .names-past .result
+past c =
+    ap (λ n. someFrom n (named (theMove (moved c))))
+    (sym (c .before .memory-of .ensures .0 ∙ ap (λ (z : Sizes). z .blocks * z .words) (sized c)))
+    ∙ sym (c .names-past .ensures)
 
--- The move names no word past the memory.
-inside : (c : tie.Else2)
-    → (target (theMove (wide (c .before))) < words (c .before)) × (sourceOf (theMove (wide (c .before))) < 256)
-inside c =
-    below (theMove (wide (c .before))) (words (c .before))
-    (rw (c .before .before .memory-of .ensures .0) at (c .before .before .memory-of .ensures .1))
-    (past (c .before) ∙ c .if2 .left)
+-- It names none.
+inside : (c : tie.Else2) → target (theMove (moved (c .before))) < memory (c .before)
+inside c = below (theMove (moved (c .before))) (memory (c .before)) (past (c .before) ∙ c .if2 .left)
 
 -- Where the words that the move names were judged, from where the blocks have been counted.
 abbrev judged : tie.After-blocks-with → tie.Else2
 judged c = c .before .before .before .before
 
--- How many blocks the update writes with a move to word d behind its first n moves.
-abbrev withWord : tie.After-wide → ℕ → ℕ → ℕ
-withWord c d n =
-    let p = start c .args .p in
-    cond
-    (writesTo (p .sizes .words) (blockOf (p .sizes .words) d)
-    (table n (λ i. getD (now (start c .args .targets)) (16 * last c + i) 0)))
-    (p .written)
-    (p .written + 1)
+abbrev names : tie.Else3 → tie.After-names-past
+names c = judged (c .before .before) .before
 
--- How many blocks the update writes with the move.
-counted : (c : tie.After-blocks-with) (a : Arrays)
-    → length
-    (written (start (wide (judged c .before)) .args .p .sizes .words)
-    (updateAt (arrays (wide (judged c .before)) a) (last (wide (judged c .before)))))
-    ≡ start (wide (judged c .before)) .args .p .written
-    → length
-    (written (start (wide (judged c .before)) .args .p .sizes .words)
-    (updateAt (arrays (wide (judged c .before)) a) (last (wide (judged c .before)))
-    ++ (theMove (wide (judged c .before)) ∷ [])))
-    ≡ c .blocks-with .result
-counted c a q =
-    let w = wide (judged c .before) in
-    blocks-more (arrays w a) (last w) (start w .args .p .sizes .words) (start w .args .p .written) (theMove w) q
-    ∙ ap₂ (withWord w) (sym (c .before .target-of .ensures)) (sym (w .wide .ensures))
-    ∙ sym (c .blocks-with .ensures)
+-- How many blocks the last update writes with a move to word d behind its first n moves, in blocks of a size.
+abbrev withWord : tie.After-size-of → ℕ → ℕ → ℕ → ℕ
+withWord c size d n =
+    cond (writesTo size (blockOf size d) (table n (λ i. targetAt (plan c) (16 * last c + i))))
+    (start c .args .p .written)
+    (start c .args .p .written + 1)
 
--- The last update has fewer than 16 moves.
-few : (c : tie.After-names-past) → wide c .wide .result < 16
-few c = c .before .before .before .if1 .left
-
--- The place of the last update is below 32.
-room : (c : tie.After-wide) → last c < 32
-room c = let r = start c .pre .1 .1 in omega (arith, placed c)
+-- How many blocks it writes with the move.
+counted : (c : tie.After-blocks-with) →
+    let m = moved (judged c .before) in
+    let size = sizesIn (plan m) .words in
+    length (written size (updateAt (plan m) (last m) ++ (theMove m ∷ []))) ≡ c .blocks-with .result
+counted c =
+    let n = judged c .before in
+    let m = moved n in
+    let size = sizesIn (plan m) .words in
+    blocks-more (plan m) (last m) size (start m .args .p .written) (theMove m)
+    (count-is (start m .args .p) (plan m) (last m) (placed m) (holds m))
+    ∙ sym
+    (c .blocks-with .ensures
+    ∙ (λ i. withWord m (sized n i .words) (c .before .target-of .ensures i) (count m i)))
 
 add-number : tie.Need-add-number
 add-number c = search needs
@@ -117,46 +134,56 @@ enum-told : tie.Need-enum-told
 enum-told c = search needs
 
 returns : tie.Need-returns
-returns c = λ k a. malformed k _ _ _ _ (rw (c .enum-told .given .1))
+returns c = λ k e. malformed k _ _ _ _ (rw (c .enum-told .given .1))
+
+updates-requires : tie.Need-updates-requires
+updates-requires c κs = search needs
 
 sub-last : tie.Need-sub-last
 sub-last c = search needs
 
-element-copy-out-wide : tie.Need-element-copy-out-wide
-element-copy-out-wide c = search needs
+count-requires : tie.Need-count-requires
+count-requires c κs = low (c .before)
 
-wide-requires : tie.Need-wide-requires
-wide-requires c κs = search needs
+size-of-requires : tie.Need-size-of-requires
+size-of-requires c κs = search needs
 
 returns-2 : tie.Need-returns-2
 returns-2 c =
-    λ k a.
-    let w = c .before in
-    bad-move k (start w .args .p) (arrays w a) _ _ (theMove w) (last w) Fault.TooMany (says w) (placed w)
-    (λ q.
-    judged-many (start w .args .p) (arrays w a) (theMove w) (last w) (omega (arith, w .wide .ensures)))
+    λ k e.
+    let m = c .before in
+    bad-move k _ _ _ _ (theMove m) (last m) Fault.TooMany (says m) (placed m)
+    (judged-many (plan m) (theMove m) (last m) (subst (λ n. 16 ≤ n) (count m) (c .if1 .taken)))
+
+sizes-requires : tie.Need-sizes-requires
+sizes-requires c κs = search needs
 
 memory-of-requires : tie.Need-memory-of-requires
-memory-of-requires c κs = search needs
+memory-of-requires c κs =
+    let r = holds (c .before .before .before) .ranged in
+    let z = c .sizes .ensures in
+    (rw z (r .blocks), rw z (r .words))
 
 names-past-requires : tie.Need-names-past-requires
 names-past-requires c κs = search needs
 
 returns-3 : tie.Need-returns-3
 returns-3 c =
-    λ k a.
+    λ k e.
     let n = c .before in
-    let w = wide n in
-    bad-move k (start w .args .p) (arrays w a) _ _ (theMove w) (last w) Fault.BadWord (says w) (placed w)
-    (λ q.
-    judged-past (start w .args .p) (arrays w a) (theMove w) (last w) (omega (arith, w .wide .ensures))
-    (past n ∙ c .if2 .taken))
+    let m = moved n in
+    bad-move k _ _ _ _ (theMove m) (last m) Fault.BadWord (says m) (placed m)
+    (judged-past (plan m) (theMove m) (last m) (few n) (past n ∙ c .if2 .taken))
 
 mul-from : tie.Need-mul-from
-mul-from c = search needs
+mul-from c = record { fits = omega (arith, low-place (moved (c .before))) }
 
 cast-blocks-with : tie.Need-cast-blocks-with
-cast-blocks-with c = search needs
+cast-blocks-with c =
+    let n = c .before .before .before in
+    let r = holds (moved n) .ranged in
+    let z = n .before .before .sizes .ensures in
+    record { fits = omega (arith, words-low n) }
 
 target-of-requires : tie.Need-target-of-requires
 target-of-requires c κs = search needs
@@ -164,67 +191,62 @@ target-of-requires c κs = search needs
 blocks-with-requires : tie.Need-blocks-with-requires
 blocks-with-requires c κs =
     let e = c .before .before .before in
-    let w = wide (e .before) in
-    let p = start w .args .p in
-    let r = start w .pre .1 .1 in (
-      omega arith,
-      (some-words (p .sizes .blocks) (p .sizes .words) (target (theMove w)) (inside e .0), r .blocks-written),
+    let n = e .before in (
+      omega (arith, low-place (moved n), few-read n),
+      (
+        subst (λ (z : Sizes). 0 < z .words) (sym (sized n)) (some-words _ _ (target (theMove (moved n))) (inside e)),
+        holds (moved n) .ranged .blocks-written,
+      ),
     )
 
 returns-4 : tie.Need-returns-4
 returns-4 c =
-    λ k a.
+    λ k e.
     let b = c .before .before in
     let n = judged b .before in
-    let w = wide n in
-    bad-move k (start w .args .p) (arrays w a) _ _ (theMove w) (last w) Fault.TooManyBlocks (says w) (placed w)
-    (λ q.
-    judged-blocks (start w .args .p) (arrays w a) (theMove w) (last w) (omega (arith, w .wide .ensures, few n))
-    (past n ∙ judged b .if2 .left) (b .blocks-with .result) (counted b a q) (c .if3 .taken))
+    let m = moved n in
+    bad-move k _ _ _ _ (theMove m) (last m) Fault.TooManyBlocks (says m) (placed m)
+    (judged-blocks (plan m) (theMove m) (last m) (few n) (past n ∙ judged b .if2 .left) (b .blocks-with .result)
+    (counted b)
+    (subst (λ (z : Sizes). z .copies < b .blocks-with .result) (sized n) (c .if3 .taken)))
 
-add-store-move : tie.Need-add-store-move
-add-store-move c =
-    let n = judged (c .before .before) .before in
-    omega (arith, few n, room (wide n))
+add-put-move : tie.Need-add-put-move
+add-put-move c =
+    record { fits = omega (arith, low-place (moved (names (c .before))), few-read (names (c .before))) }
 
-store-move-requires : tie.Need-store-move-requires
-store-move-requires c κs =
-    let e = judged (c .before .before .before .before .before .before) in
-    let n = e .before in
-    let m = n .before .memory-of .ensures in
-    (omega (arith, few n, room (wide n)), (omega (arith, inside e .0, m .0, m .1), inside e .1))
+put-move-requires : tie.Need-put-move-requires
+put-move-requires c κs = omega (arith, low-place (moved (names (c .before))), few-read (names (c .before)))
 
-add-counts : tie.Need-add-counts
-add-counts c = search needs
+add-put-count : tie.Need-add-put-count
+add-put-count c = record { fits = omega (arith, few-read (names (c .before .before .before))) }
 
-cast-counts : tie.Need-cast-counts
-cast-counts c = search needs
+cast-put-count : tie.Need-cast-put-count
+cast-put-count c = record { fits = omega (arith, few-read (names (c .before .before .before))) }
 
-element-write-counts : tie.Need-element-write-counts
-element-write-counts c = room (wide (judged (c .before .before .before .before .before .before .before) .before))
+put-count-requires : tie.Need-put-count-requires
+put-count-requires c κs = low-place (moved (names (c .before .before .before)))
 
 returns-5 : tie.Need-returns-5
 returns-5 c =
-    λ k a.
-    let b = c .before .before .before .before .before .before .before in
+    λ k e.
+    let i = c .before .before .before .before in
+    let b = i .before .before in
     let n = judged b .before in
-    let w = wide n in
-    let r = start w .pre .1 .1 in
-    let s = c .store-move .ensures in
-    let enough = c .before .before .before .before .before .if3 .left in
-    move-read-into k (start w .args .p) (arrays w a) _ (theMove w) (last w) (w .wide .result) (b .blocks-with .result)
-    _
-    _
-    _
-    _
-    (s .0) (s .1 .0) (s .1 .1 .0) (s .1 .1 .1)
-    (move-read k (start w .args .p) (arrays w a) _ (theMove w) (last w) (w .wide .result) (b .blocks-with .result)
-    (says w) (placed w) (sym (w .wide .ensures)) (few n) (omega (arith, r .copies, enough)) (start w .pre .1 .0) r
-    (λ q. (
-      judged-none (start w .args .p) (arrays w a) (theMove w) (last w) (omega (arith, w .wide .ensures, few n))
-          (past n ∙ judged b .if2 .left) (b .blocks-with .result) (counted b a q) enough,
-      sym (counted b a q),
-    )))
+    let m = moved n in
+    let h = holds m in
+    let enough = subst (λ (z : Sizes). b .blocks-with .result ≤ z .copies) (sized n) (i .if3 .left) in
+    move-read k _ (plan m) _ _ e _ (theMove m) (last m) (m .size-of .result) (b .blocks-with .result) (says m)
+    (placed m)
+    (sym (count m))
+    (few-read n)
+    (omega (arith, h .ranged .copies, enough))
+    (start m .pre .1 .0)
+    h
+    (judged-none (plan m) (theMove m) (last m) (few n) (past n ∙ judged b .if2 .left) (b .blocks-with .result)
+    (counted b) enough)
+    (counted b)
+    (c .before .before .put-move .ensures)
+    (c .put-count .ensures)
 
 pub move-line-spec : {M : Type 1} → statement M
 move-line-spec =
@@ -234,10 +256,12 @@ move-line-spec =
     enum-known-read
     enum-told
     returns
+    updates-requires
     sub-last
-    element-copy-out-wide
-    wide-requires
+    count-requires
+    size-of-requires
     returns-2
+    sizes-requires
     memory-of-requires
     names-past-requires
     returns-3
@@ -246,9 +270,9 @@ move-line-spec =
     target-of-requires
     blocks-with-requires
     returns-4
-    add-store-move
-    store-move-requires
-    add-counts
-    cast-counts
-    element-write-counts
+    add-put-move
+    put-move-requires
+    add-put-count
+    cast-put-count
+    put-count-requires
     returns-5)

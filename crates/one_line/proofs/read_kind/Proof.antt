@@ -1,21 +1,9 @@
 -- `read_kind` hands each kind to its own function. Assumes nothing.
-use denote.Ref.{now}
 use Rattle.format.specs.declared.Kind.{Kind}
-use Rattle.format.specs.Stored.{Arrays}
-use Rattle.line.specs.Steps.{arrays}
 use Rattle.one_line.proofs.Arms.{at-kind, at-item, at-unknown, standing-at}
 use borrow.Author.Needs.{needs}
 use Rattle.one_line.proofs.read_kind.Statement.{statement}
 use Rattle.one_line.proofs.read_kind.Tie as tie
-
--- The arrays at the start.
-abbrev whole : tie.Start → Arrays
-whole c =
-    arrays (now (c .args .cards)) (now (c .args .priorities)) (now (c .args .words)) (now (c .args .counts))
-    (now (c .args .kinds))
-    (now (c .args .targets))
-    (now (c .args .sources))
-    (now (c .args .amounts))
 
 enum-told : tie.Need-enum-told
 enum-told c = search needs
@@ -23,36 +11,41 @@ enum-told c = search needs
 plan-line-requires : tie.Need-plan-line-requires
 plan-line-requires c κs =
     let s = c .before .before .before .before in
-    (s .pre .0 .0, (standing-at _ _ Kind.Plan (c .enum-told .given .1) (s .pre .0 .1 .0), s .pre .0 .1 .1 .1))
+    (s .pre .0 .0, (standing-at _ _ _ Kind.Plan (c .before .enum-told .given .1) (s .pre .0 .1 .0), s .pre .1 .0))
 
 enum-told-2 : tie.Need-enum-told-2
 enum-told-2 c = search needs
 
 job-line-requires : tie.Need-job-line-requires
 job-line-requires c κs =
-    let t = c .before .before in
-    let s = t .before .before .before .before in
-    (s .pre .0 .0, (standing-at _ _ Kind.Job (t .enum-told2 .given .1) (s .pre .0 .1 .0), s .pre .0 .1 .1))
+    let s = c .before .before .before .before in (
+      s .pre .0 .0,
+      (
+        standing-at _ _ _ Kind.Job (c .before .enum-told2 .given .1) (s .pre .0 .1 .0),
+        (s .pre .0 .1 .1, s .pre .1 .0),
+      ),
+    )
 
 enum-told-3 : tie.Need-enum-told-3
 enum-told-3 c = search needs
 
 block-line-requires : tie.Need-block-line-requires
 block-line-requires c κs =
-    let t = c .before in
-    let s = t .before .before .before .before in (
+    let s = c .before .before .before .before in (
+      s .pre .0 .0,
       (
-        s .pre .0 .0,
-        (standing-at _ _ Kind.Block (t .enum-told3 .given .1) (s .pre .0 .1 .0), s .pre .0 .1 .1),
+        standing-at _ _ _ Kind.Block (c .before .enum-told3 .given .1) (s .pre .0 .1 .0),
+        (s .pre .0 .1 .1, s .pre .1 .0),
       ),
-      s .pre .1,
     )
 
 enum-told-4 : tie.Need-enum-told-4
 enum-told-4 c = search needs
 
 update-line-requires : tie.Need-update-line-requires
-update-line-requires c κs = search needs
+update-line-requires c κs =
+    let s = c .before .before .before .before in
+    (s .pre .0 .0, (s .pre .0 .1 .1, s .pre .1 .0))
 
 enum-told-5 : tie.Need-enum-told-5
 enum-told-5 c = search needs
@@ -62,9 +55,10 @@ copy-of-requires c κs = search needs
 
 move-line-requires : tie.Need-move-line-requires
 move-line-requires c κs =
-    let t = c .before .before .before .before .before .before in
-    let s = t .before .before .before .before in
-    (standing-at _ _ Kind.Copy (t .enum-told5 .given .1) (s .pre .0 .1 .0), s .pre .0 .1 .1)
+    let s = c .before .before .before .before .before in (
+      standing-at _ _ _ Kind.Copy (c .before .before .enum-told5 .given .1) (s .pre .0 .1 .0),
+      (s .pre .0 .1 .1, s .pre .1 .0),
+    )
 
 enum-told-6 : tie.Need-enum-told-6
 enum-told-6 c = search needs
@@ -74,9 +68,10 @@ set-of-requires c κs = search needs
 
 move-line-requires-2 : tie.Need-move-line-requires-2
 move-line-requires-2 c κs =
-    let t = c .before .before .before .before .before .before in
-    let s = t .before .before .before .before in
-    (standing-at _ _ Kind.Set (t .enum-told6 .given .1) (s .pre .0 .1 .0), s .pre .0 .1 .1)
+    let s = c .before .before .before .before .before in (
+      standing-at _ _ _ Kind.Set (c .before .before .enum-told6 .given .1) (s .pre .0 .1 .0),
+      (s .pre .0 .1 .1, s .pre .1 .0),
+    )
 
 enum-told-7 : tie.Need-enum-told-7
 enum-told-7 c = search needs
@@ -86,9 +81,10 @@ add-of-requires c κs = search needs
 
 move-line-requires-3 : tie.Need-move-line-requires-3
 move-line-requires-3 c κs =
-    let t = c .before .before .before .before .before .before in
-    let s = t .before .before .before .before in
-    (standing-at _ _ Kind.Add (t .enum-told7 .given .1) (s .pre .0 .1 .0), s .pre .0 .1 .1)
+    let s = c .before .before .before .before .before in (
+      standing-at _ _ _ Kind.Add (c .before .before .enum-told7 .given .1) (s .pre .0 .1 .0),
+      (s .pre .0 .1 .1, s .pre .1 .0),
+    )
 
 enum-told-8 : tie.Need-enum-told-8
 enum-told-8 c = search needs
@@ -97,7 +93,9 @@ call-of-requires : tie.Need-call-of-requires
 call-of-requires c κs = search needs
 
 entry-line-requires : tie.Need-entry-line-requires
-entry-line-requires c κs = search needs
+entry-line-requires c κs =
+    let s = c .before .before .before .before .before in
+    (s .pre .0 .1 .1, s .pre .1 .1)
 
 enum-told-9 : tie.Need-enum-told-9
 enum-told-9 c = search needs
@@ -106,99 +104,67 @@ step-of-requires : tie.Need-step-of-requires
 step-of-requires c κs = search needs
 
 entry-line-requires-2 : tie.Need-entry-line-requires-2
-entry-line-requires-2 c κs = search needs
+entry-line-requires-2 c κs =
+    let s = c .before .before .before .before .before in
+    (s .pre .0 .1 .1, s .pre .1 .1)
 
 enum-told-10 : tie.Need-enum-told-10
 enum-told-10 c = search needs
 
-add-t40 : tie.Need-add-t40
-add-t40 c = search needs
+add-t23 : tie.Need-add-t23
+add-t23 c = search needs
 
 returns : tie.Need-returns
 returns c =
-    let t = c .before in
-    let s = t .before .before .before .before in
-    (at-kind _ Kind.Plan _ _ _ _ _ _ (t .enum-told .given .1) (c .plan-line .ensures (whole s)), s .pre .1)
+    at-kind _ Kind.Plan _ _ _ _ _ _ (c .before .before .enum-told .given .1) (c .plan-line .ensures _)
 
 returns-2 : tie.Need-returns-2
 returns-2 c =
-    let t = c .before .before .before in
-    let s = t .before .before .before .before in
-    (at-kind _ Kind.Job _ _ _ _ _ _ (t .enum-told2 .given .1) (c .job-line .ensures (whole s)), s .pre .1)
-
-same-length : tie.Need-same-length
-same-length c = search needs
+    at-kind _ Kind.Job _ _ _ _ _ _ (c .before .before .enum-told2 .given .1) (c .job-line .ensures _)
 
 returns-3 : tie.Need-returns-3
 returns-3 c =
-    let l = c .before .before in
-    let t = l .before .before in
-    let s = t .before .before .before .before in (
-      at-kind _ Kind.Block _ _ _ _ _ _ (t .enum-told3 .given .1) (l .block-line .ensures .0 (whole s)),
-      l .block-line .ensures .1,
-    )
+    at-kind _ Kind.Block _ _ _ _ _ _ (c .before .before .enum-told3 .given .1) (c .block-line .ensures _)
 
 returns-4 : tie.Need-returns-4
 returns-4 c =
-    let t = c .before .before in
-    let s = t .before .before .before .before in
-    (at-kind _ Kind.Update _ _ _ _ _ _ (t .enum-told4 .given .1) (c .update-line .ensures (whole s)), s .pre .1)
+    at-kind _ Kind.Update _ _ _ _ _ _ (c .before .before .enum-told4 .given .1) (c .update-line .ensures _)
 
 returns-5 : tie.Need-returns-5
 returns-5 c =
-    let o = c .before .before .before .before .before .before in
-    let t = o .before in
-    let s = t .before .before .before .before in (
-      at-kind _ Kind.Copy _ _ _ _ _ _ (t .enum-told5 .given .1)
-          (at-item Kind.Copy _ _ _ _ _ _ (o .copy-of .ensures) (c .move-line .ensures Kind.Copy (whole s))),
-      s .pre .1,
-    )
+    let o = c .before .before in
+    at-kind _ Kind.Copy _ _ _ _ _ _ (o .before .enum-told5 .given .1)
+    (at-item Kind.Copy _ _ _ _ _ _ (o .copy-of .ensures) (c .move-line .ensures Kind.Copy _))
 
 returns-6 : tie.Need-returns-6
 returns-6 c =
-    let o = c .before .before .before .before .before .before in
-    let t = o .before in
-    let s = t .before .before .before .before in (
-      at-kind _ Kind.Set _ _ _ _ _ _ (t .enum-told6 .given .1)
-          (at-item Kind.Set _ _ _ _ _ _ (o .set-of .ensures) (c .move-line2 .ensures Kind.Set (whole s))),
-      s .pre .1,
-    )
+    let o = c .before .before in
+    at-kind _ Kind.Set _ _ _ _ _ _ (o .before .enum-told6 .given .1)
+    (at-item Kind.Set _ _ _ _ _ _ (o .set-of .ensures) (c .move-line2 .ensures Kind.Set _))
 
 returns-7 : tie.Need-returns-7
 returns-7 c =
-    let o = c .before .before .before .before .before .before in
-    let t = o .before in
-    let s = t .before .before .before .before in (
-      at-kind _ Kind.Add _ _ _ _ _ _ (t .enum-told7 .given .1)
-          (at-item Kind.Add _ _ _ _ _ _ (o .add-of .ensures) (c .move-line3 .ensures Kind.Add (whole s))),
-      s .pre .1,
-    )
+    let o = c .before .before in
+    at-kind _ Kind.Add _ _ _ _ _ _ (o .before .enum-told7 .given .1)
+    (at-item Kind.Add _ _ _ _ _ _ (o .add-of .ensures) (c .move-line3 .ensures Kind.Add _))
 
 returns-8 : tie.Need-returns-8
 returns-8 c =
-    let o = c .before in
-    let t = o .before in
-    let s = t .before .before .before .before in (
-      at-kind _ Kind.Call _ _ _ _ _ _ (t .enum-told8 .given .1)
-          (at-item Kind.Call _ _ _ _ _ _ (o .call-of .ensures) (c .entry-line .ensures Kind.Call (whole s))),
-      s .pre .1,
-    )
+    let o = c .before .before in
+    at-kind _ Kind.Call _ _ _ _ _ _ (o .before .enum-told8 .given .1)
+    (at-item Kind.Call _ _ _ _ _ _ (o .call-of .ensures)
+    (c .entry-line .ensures Kind.Call _ (c .before .before .before .before .before .before .pre .1 .0)))
 
 returns-9 : tie.Need-returns-9
 returns-9 c =
-    let o = c .before in
-    let t = o .before in
-    let s = t .before .before .before .before in (
-      at-kind _ Kind.Step _ _ _ _ _ _ (t .enum-told9 .given .1)
-          (at-item Kind.Step _ _ _ _ _ _ (o .step-of .ensures) (c .entry-line2 .ensures Kind.Step (whole s))),
-      s .pre .1,
-    )
+    let o = c .before .before in
+    at-kind _ Kind.Step _ _ _ _ _ _ (o .before .enum-told9 .given .1)
+    (at-item Kind.Step _ _ _ _ _ _ (o .step-of .ensures)
+    (c .entry-line2 .ensures Kind.Step _ (c .before .before .before .before .before .before .pre .1 .0)))
 
 returns-10 : tie.Need-returns-10
 returns-10 c =
-    let t = c .before in
-    let s = t .before .before .before .before in
-    (at-kind _ Kind.Unknown _ _ _ _ _ _ (t .enum-told10 .given .1) (at-unknown _ _ _ _ _ _), s .pre .1)
+    at-kind _ Kind.Unknown _ _ _ _ _ _ (c .before .enum-told10 .given .1) (at-unknown _ _ _ _ _ _)
 
 pub read-kind-spec : {M : Type 1} → statement M
 read-kind-spec =
@@ -228,10 +194,9 @@ read-kind-spec =
     step-of-requires
     entry-line-requires-2
     enum-told-10
-    add-t40
+    add-t23
     returns
     returns-2
-    same-length
     returns-3
     returns-4
     returns-5

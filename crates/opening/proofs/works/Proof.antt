@@ -5,7 +5,7 @@ use native.Mathlib.Nat.{mul-le-mul}
 use native.Mathlib.Omega.{arith}
 use borrow.Author.Needs.{needs}
 use lib.ListN.{replicate}
-use Rattle.format.specs.Stored.{table}
+use Rattle.format.specs.Plan.{table}
 use Rattle.model.specs.declared.Working.{Working}
 use Rattle.model.specs.Working.{opening}
 use Rattle.opening.proofs.Filling.{filled, fill, full}

@@ -1,37 +1,54 @@
--- `job_line` reads and judges a job, and stores it behind the earlier ones. Assumes nothing.
-use mathlib.Core.Path.{_≡_}
+-- `job_line` reads and judges a job, and puts it behind the earlier ones. Assumes nothing.
+use Prim.Native.Nat.{_<_}
+use mathlib.Core.Path.{_≡_, sym, _∙_, ap₂}
 use mathlib.Core.Option.{some}
 use native.Mathlib.Omega.{arith}
 use borrow.Author.Tests.{le-leb, lt-leb, lt-ltb, le-ltb}
+use lib.Dec.{leb}
 use lib.ListN.{getD}
 use denote.Ref.{now}
-use Rattle.format.specs.declared.Fault.{Fault}
-use Rattle.format.specs.declared.Kind.{Kind}
-use Rattle.format.specs.declared.Job.{Job}
 use Rattle.text.specs.Lines.{numbers}
 use Rattle.text.specs.Places.{fieldsAt}
+use Rattle.format.specs.declared.Fault.{Fault}
+use Rattle.format.specs.declared.Kind.{Kind}
+use Rattle.format.specs.declared.Sizes.{Sizes}
+use Rattle.format.specs.declared.Job.{Job}
 use Rattle.format.specs.Items.{itemOf, job}
+use Rattle.layout.specs.PlanTable.{sizesIn}
 use Rattle.line.proofs.Lines.{malformed, bad-job, job-read}
 use borrow.Author.Needs.{needs}
 use Rattle.plan_lines.proofs.job_line.Statement.{statement}
 use Rattle.plan_lines.proofs.job_line.Tie as tie
 
+-- The function's start, from where the job's card is a size.
+abbrev start : tie.After-size-of → tie.Start
+start c = c .before .before .before .before .before .before .before .before .before .before
+
 -- The job that was read.
-abbrev theJob : tie.After-enum-told → Job
+abbrev theJob : tie.After-size-of → Job
 theJob c =
     record {
-      card = getD (c .before .before .before .read-numbers .last .1 .1 .0) 0 0;
-      priority = getD (c .before .before .before .read-numbers .last .1 .1 .0) 1 0;
+      card = getD (c .before .before .before .before .before .before .read-numbers .last .1 .1 .0) 0 0;
+      priority = getD (c .before .before .before .before .before .before .read-numbers .last .1 .1 .0) 1 0;
     }
 
 -- What the line says, where its numbers could be read.
-says-job : (c : tie.After-enum-told)
-    → itemOf Kind.Job
-    (numbers 2
-    (fieldsAt (now (c .before .before .before .before .before .before .before .args .line))
-    (c .before .before .before .before .before .before .before .args .at)))
-    ≡ some (job (theJob c))
-says-job c = rw (← c .before .before .before .read-numbers .ensures .0, c .enum-told .given .1)
+says-job : (c : tie.After-size-of)
+    → itemOf Kind.Job (numbers 2 (fieldsAt (now (start c .args .line)) (start c .args .at))) ≡ some (job (theJob c))
+says-job c =
+    let t = c .before .before .before in
+    rw (← t .before .before .before .read-numbers .ensures .0, t .enum-told .given .1)
+
+-- The test of the card.
+card-test : (c : tie.After-size-of)
+    → leb (sizesIn (now (start c .args .plan)) .cards) (theJob c .card)
+    ≡ leb (c .before .sizes .result .cards) (c .size-of .result)
+card-test c =
+    sym (ap₂ (λ (z : Sizes) n. leb (z .cards) n) (c .before .sizes .ensures) (c .size-of .ensures))
+
+-- There is a place for the job.
+few : (c : tie.After-size-of) → start c .args .p .jobs < 16
+few c = let h = start c .pre .1 in omega (arith, h .0, h .1 .1 .ranged .jobs)
 
 add-number : tie.Need-add-number
 add-number c = search needs
@@ -50,7 +67,7 @@ enum-told-2 c = search needs
 
 returns : tie.Need-returns
 returns c =
-    λ a.
+    λ e.
     malformed Kind.Job _ _ _ _
     (rw (← c .before .before .before .read-numbers .ensures .0, c .enum-told2 .given .1))
 
@@ -60,63 +77,72 @@ array-read-card c = search needs
 array-read-priority : tie.Need-array-read-priority
 array-read-priority c = search needs
 
-cast-if1 : tie.Need-cast-if1
-cast-if1 c = search needs
+sizes-requires : tie.Need-sizes-requires
+sizes-requires c κs = search needs
+
+size-of-requires : tie.Need-size-of-requires
+size-of-requires c κs = search needs
 
 returns-2 : tie.Need-returns-2
 returns-2 c =
-    λ a.
-    let r = c .before .before .before in
-    bad-job _ _ _ _ (theJob r) Fault.BadJob (says-job r) (rw (le-leb _ _ (c .if1 .taken)))
+    λ e.
+    let z = c .before .before in
+    bad-job _ _ _ _ (theJob z) Fault.BadJob (says-job z) (rw (card-test z, le-leb _ _ (c .if1 .taken)))
 
 returns-3 : tie.Need-returns-3
 returns-3 c =
-    λ a.
-    let r = c .before .before .before .before in
-    bad-job _ _ _ _ (theJob r) Fault.BadJob (says-job r)
-    (rw (lt-leb _ _ (c .before .if1 .left), lt-ltb _ _ (c .if2 .taken)))
-
-cast-card : tie.Need-cast-card
-cast-card c = search needs
-
-cast-priority : tie.Need-cast-priority
-cast-priority c = search needs
+    λ e.
+    let z = c .before .before .before in
+    bad-job _ _ _ _ (theJob z) Fault.BadJob (says-job z)
+    (rw (card-test z, lt-leb _ _ (c .before .if1 .left), lt-ltb _ _ (c .if2 .taken)))
 
 job-taken-requires : tie.Need-job-taken-requires
-job-taken-requires c κs = search needs
+job-taken-requires c κs = omega (arith, few (c .before .before .before .before))
 
 returns-4 : tie.Need-returns-4
 returns-4 c =
-    λ a.
-    let r = c .before .before .before .before .before .before .before .before in
-    bad-job _ _ _ _ (theJob r) Fault.SameJob (says-job r)
+    λ e.
+    let z = c .before .before .before .before .before .before in
+    bad-job _ _ _ _ (theJob z) Fault.SameJob (says-job z)
     (rw (
-      lt-leb _ _ (c .before .before .before .before .before .if1 .left),
-      le-ltb _ _ (c .before .before .before .before .if2 .left),
+      card-test z,
+      lt-leb _ _ (c .before .before .before .before .if1 .left),
+      le-ltb _ _ (c .before .before .before .if2 .left),
       ← c .before .job-taken .ensures,
       c .if3 .taken,
     ))
 
-element-write-cards : tie.Need-element-write-cards
-element-write-cards c = search needs
+put-card-requires : tie.Need-put-card-requires
+put-card-requires c κs = few (c .before .before .before .before .before .before .before)
 
-element-write-priorities : tie.Need-element-write-priorities
-element-write-priorities c = search needs
+put-priority-requires : tie.Need-put-priority-requires
+put-priority-requires c κs = few (c .before .before .before .before .before .before .before .before .before)
 
 add-q : tie.Need-add-q
-add-q c = search needs
+add-q c =
+    record {
+      fits = omega
+          (arith, few (c .before .before .before .before .before .before .before .before .before .before));
+    }
 
 returns-5 : tie.Need-returns-5
 returns-5 c =
-    λ a.
-    let r = c .before .before .before .before .before .before .before .before in
-    let start = r .before .before .before .before .before .before .before in
-    job-read _ a _ _ _ (theJob r) (says-job r) (rw (
-      lt-leb _ _ (c .before .before .before .before .before .if1 .left),
-      le-ltb _ _ (c .before .before .before .before .if2 .left),
-      ← c .before .job-taken .ensures,
-      c .if3 .left,
-    )) (omega arith) (omega arith) (start .pre .1 .1 .1)
+    λ e.
+    let z = c .before .before .before .before .before .before .before .before .before .before in
+    let s = start z in
+    job-read _ (now (s .args .plan)) _ _ e _ (theJob z) (says-job z)
+    (rw (
+      card-test z,
+      lt-leb _ _ (c .before .before .before .before .before .before .before .before .if1 .left),
+      le-ltb _ _ (c .before .before .before .before .before .before .before .if2 .left),
+      ← c .before .before .before .before .before .job-taken .ensures,
+      c .before .before .before .before .if3 .left,
+    ))
+    (s .pre .1 .0)
+    (s .pre .1 .1 .0)
+    (s .pre .1 .1 .1)
+    (c .before .before .put-card .ensures)
+    (c .put-priority .ensures)
 
 pub job-line-spec : {M : Type 1} → statement M
 job-line-spec =
@@ -130,14 +156,13 @@ job-line-spec =
     returns
     array-read-card
     array-read-priority
-    cast-if1
+    sizes-requires
+    size-of-requires
     returns-2
     returns-3
-    cast-card
-    cast-priority
     job-taken-requires
     returns-4
-    element-write-cards
-    element-write-priorities
+    put-card-requires
+    put-priority-requires
     add-q
     returns-5)

@@ -1,13 +1,15 @@
-use borrow.Author.Tests.{not-true, not-false}
--- `plan_line` reads the sizes and judges them. Assumes nothing.
+-- `plan_line` reads the sizes, judges them and puts them. Assumes nothing.
 use mathlib.Core.Path.{_≡_, sym, _∙_}
+use mathlib.Core.List.{[], _∷_}
 use mathlib.Core.Option.{some}
+use borrow.Author.Tests.{not-true, not-false}
 use denote.Ref.{now}
 use Rattle.text.specs.Lines.{numbers}
 use Rattle.text.specs.Places.{fieldsAt}
 use Rattle.format.specs.declared.Kind.{Kind}
 use Rattle.format.specs.declared.Sizes.{Sizes}
 use Rattle.format.specs.Items.{itemOf, plan}
+use Rattle.layout.proofs.Puts.{put-alike}
 use Rattle.line.proofs.Lines.{good-item, malformed, bad-size, plan-read}
 use borrow.Author.Needs.{needs}
 use Rattle.plan_lines.proofs.plan_line.Statement.{statement}
@@ -63,7 +65,7 @@ enum-told-2 c = search needs
 
 returns : tie.Need-returns
 returns c =
-    λ a.
+    λ e.
     malformed Kind.Plan _ _ _ _
     (rw (← c .before .before .before .read-numbers .ensures .0, c .enum-told2 .given .1))
 
@@ -102,16 +104,47 @@ in-range-requires c κs = search needs
 
 returns-2 : tie.Need-returns-2
 returns-2 c =
-    λ a.
+    λ e.
     let r = c .before .before in
-    bad-size _ a _ (theSizes r) (says-plan r) (sym (c .before .in-range .ensures) ∙ not-true _ (c .if1 .taken))
+    bad-size _ _ _ _ (theSizes r) (says-plan r) (sym (c .before .in-range .ensures) ∙ not-true _ (c .if1 .taken))
+
+array-read-put-sizes : tie.Need-array-read-put-sizes
+array-read-put-sizes c = search needs
+
+array-read-put-sizes-2 : tie.Need-array-read-put-sizes-2
+array-read-put-sizes-2 c = search needs
+
+array-read-put-sizes-3 : tie.Need-array-read-put-sizes-3
+array-read-put-sizes-3 c = search needs
+
+array-read-put-sizes-4 : tie.Need-array-read-put-sizes-4
+array-read-put-sizes-4 c = search needs
+
+array-read-put-sizes-5 : tie.Need-array-read-put-sizes-5
+array-read-put-sizes-5 c = search needs
+
+put-sizes-requires : tie.Need-put-sizes-requires
+put-sizes-requires c κs = search needs
 
 returns-3 : tie.Need-returns-3
 returns-3 c =
-    λ a.
-    let r = c .before .before in
-    plan-read _ a _ (theSizes r) (says-plan r) (sym (c .before .in-range .ensures) ∙ not-false _ (c .if1 .left))
-    (start r .pre .1 .0) (start r .pre .1 .1)
+    λ e.
+    let i = c .before .before in
+    let r = i .before .before in
+    let s = start r in
+    plan-read _ (now (s .args .plan)) _ e _ (theSizes r) (says-plan r)
+    (sym (i .before .in-range .ensures) ∙ not-false _ (i .if1 .left))
+    (s .pre .1 .0)
+    (s .pre .1 .1)
+    (put-alike
+    (λ k.
+    sym (r .before .before .before .before .size-of .ensures) k
+    ∷ sym (r .before .before .before .size-of2 .ensures) k
+    ∷ sym (r .before .before .size-of3 .ensures) k
+    ∷ sym (r .before .size-of4 .ensures) k
+    ∷ sym (r .size-of5 .ensures) k
+    ∷ [])
+    (c .put-sizes .ensures))
 
 pub plan-line-spec : {M : Type 1} → statement M
 plan-line-spec =
@@ -135,4 +168,10 @@ plan-line-spec =
     size-of-requires-5
     in-range-requires
     returns-2
+    array-read-put-sizes
+    array-read-put-sizes-2
+    array-read-put-sizes-3
+    array-read-put-sizes-4
+    array-read-put-sizes-5
+    put-sizes-requires
     returns-3)

@@ -43,13 +43,13 @@ use denote.Triple.Clauses.{ensured, lasts, Lasts}
 use denote.Triple.Table.{entered, cited}
 use denote.Triple.Walked.{says, needs, Stays, walkOf, Walks as WalksTo, ends-at, walked, walk-meets}
 use Rattle.format.specs.declared.Entry.{Entry}
-use Rattle.format.specs.declared.StoredPlan.{StoredPlan}
+use Rattle.plan_arrays.specs.declared.PlanArrays.{PlanArrays}
 use Rattle.format.specs.declared.Sizes.{Sizes}
 use Rattle.format.specs.Plan.{Plan}
 use Rattle.format.proofs.Entry as E
 use Rattle.format.proofs.Verdict.Laws as F′
-use Rattle.format.proofs.StoredPlan as P
-use Rattle.format.proofs.StoredPlan.Laws as P′
+use Rattle.plan_arrays.proofs.PlanArrays as P
+use Rattle.plan_arrays.proofs.PlanArrays.Laws as P′
 use Rattle.format.proofs.Sizes as Z
 use Rattle.format.proofs.Sizes.Laws as Z′
 use Rattle.schedule.specs.declared.Walk.{Walk}
@@ -93,7 +93,7 @@ counted r = sliceVal (r .ptr) (length (now r))
 abbrev begunVal : Begun → Val
 begunVal b = LL.val B.the-type B′.the-laws b
 
-abbrev planVal : StoredPlan → Val
+abbrev planVal : PlanArrays → Val
 planVal p = LL.val P.the-type P′.the-laws p
 
 abbrev walkVal : Walk → Val
@@ -107,7 +107,7 @@ module _ {M : Type 1} (𝓤 : URA M) (H : Heap 𝓤) (A : Atoms 𝓤) (W : Given
   begun-typed : (b : Begun) (v : Val) → Is B.the-row b (v ∷ []) → T (hasTy B′.mir v) × WT v
   begun-typed b v ib = LL.lawful B.the-type B′.the-laws 𝓤 H A W .typed b _ ib .0
 
-  plan-typed : (p : StoredPlan) (v : Val) → Is P.the-row p (v ∷ []) → T (hasTy P′.mir v) × WT v
+  plan-typed : (p : PlanArrays) (v : Val) → Is P.the-row p (v ∷ []) → T (hasTy P′.mir v) × WT v
   plan-typed p v ip = LL.lawful P.the-type P′.the-laws 𝓤 H A W .typed p _ ip .0
 
   walk-typed : (w : Walk) (v : Val) → Is R.the-row w (v ∷ []) → T (hasTy R′.mir v) × WT v
@@ -128,8 +128,8 @@ begun-fields = tcons F′.mir (tcons P′.mir (tcons (tyInt w64) (tcons R′.mir
 
 abbrev plan-fields : Tys
 plan-fields =
-    tcons Z′.mir (tcons (tyInt w64) (tcons (bytes 16) (tcons (bytes 16) (tcons (words 256) (tcons (bytes 32)
-    (tcons (bytes 512) (tcons (bytes 512) (tcons (bytes 512) (tcons (words 512) tnil)))))))))
+    tcons Z′.mir (tcons (tyInt w64) (tcons (bytes 16) (tcons (bytes 16) (tcons (bytes 32) (tcons (bytes 512)
+    (tcons (bytes 512) (tcons (bytes 512) (tcons (words 512) tnil))))))))
 
 -- What is known of the fields of what was begun, and of the plan's.
 record Known (b : Begun) : Type 0 where
@@ -158,11 +158,11 @@ known b ib =
       updates-are = plan .1 .0;
       cards-are = out-of w8 16 (b .plan .cards) (plan .1 .1 .0);
       priorities-are = out-of w8 16 (b .plan .priorities) (plan .1 .1 .1 .0);
-      counts-are = out-of w8 32 (b .plan .counts) (plan .1 .1 .1 .1 .1 .0);
-      kinds-are = out-of w8 512 (b .plan .kinds) (plan .1 .1 .1 .1 .1 .1 .0);
-      targets-are = out-of w8 512 (b .plan .targets) (plan .1 .1 .1 .1 .1 .1 .1 .0);
-      sources-are = out-of w8 512 (b .plan .sources) (plan .1 .1 .1 .1 .1 .1 .1 .1 .0);
-      amounts-are = out-of w32 512 (b .plan .amounts) (plan .1 .1 .1 .1 .1 .1 .1 .1 .1 .0);
+      counts-are = out-of w8 32 (b .plan .counts) (plan .1 .1 .1 .1 .0);
+      kinds-are = out-of w8 512 (b .plan .kinds) (plan .1 .1 .1 .1 .1 .0);
+      targets-are = out-of w8 512 (b .plan .targets) (plan .1 .1 .1 .1 .1 .1 .0);
+      sources-are = out-of w8 512 (b .plan .sources) (plan .1 .1 .1 .1 .1 .1 .1 .0);
+      amounts-are = out-of w32 512 (b .plan .amounts) (plan .1 .1 .1 .1 .1 .1 .1 .1 .0);
     }
 
 -- What running the records that were begun asks and gives, with what the five hold at first and at last.
@@ -195,7 +195,7 @@ module _ {M : Type 1} (𝓤 : URA M) (H : Heap 𝓤) (A : Atoms 𝓤) (W : Given
   abbrev es : List Entry
   es = now e
 
-  abbrev p : StoredPlan
+  abbrev p : PlanArrays
   p = b .plan
 
   -- The parameters, and their machine values.
@@ -381,7 +381,7 @@ module _ {M : Type 1} (𝓤 : URA M) (H : Heap 𝓤) (A : Atoms 𝓤) (W : Given
           move ! (15 ∷ 14 ∷ 16 ∷ 17 ∷ 12 ∷ 10 ∷ 8 ∷ 6 ∷ 4 ∷ 2 ∷ 0 ∷ 18 ∷ []) $
           cut (Lends α l δ) (raw (All 𝓤 H A at-mem run .pre (to-all α l δ)) ∷ []) _ (goes-all α l δ) $
           calls-at ! fm (All 𝓤 H A at-mem run) met (to-all α l δ) (arg ! 59 refl
-          (and-then ! (member ! 57 2 begun-fields (tyInt w64) 4736 refl refl refl) (arg ! 43 refl (arg ! 41 refl
+          (and-then ! (member ! 57 2 begun-fields (tyInt w64) 3712 refl refl refl) (arg ! 43 refl (arg ! 41 refl
           (and-then ! (member ! 45 1 plan-fields (tyInt w64) 40 refl refl refl) (arg ! 32 refl (arg ! 30 refl
           (arg ! 28 refl (arg ! 26 refl (arg ! 24 refl (arg ! 22 refl (arg ! 20 refl (arg ! 16 refl (arg ! 14 refl
           (arg ! 12 refl (arg ! 10 refl (arg ! 8 refl (no-more !)))))))))))))))))) (λ v.
@@ -447,7 +447,7 @@ module _ {M : Type 1} (𝓤 : URA M) (H : Heap 𝓤) (A : Atoms 𝓤) (W : Given
           -- the plan, the run at its opening, the sizes, and the seven arrays
           sets ! {v = planVal p} (of-opd ! (member ! 60 1 begun-fields P′.mir 16 refl refl refl)) 48 refl
           (plan-typed 𝓤 H A W p _ (is .plan-is)) $
-          sets ! {v = walkVal (b .walk)} (of-opd ! (member ! 60 3 begun-fields R′.mir 4744 refl refl refl)) 46 refl
+          sets ! {v = walkVal (b .walk)} (of-opd ! (member ! 60 3 begun-fields R′.mir 3720 refl refl refl)) 46 refl
           (walk-typed 𝓤 H A W (b .walk) _ (is .walk-is)) $
           sets ! {v = sizesVal (p .sizes)} (of-opd ! (member ! 48 0 plan-fields Z′.mir 0 refl refl refl)) 44 refl
           (sizes-typed 𝓤 H A W (p .sizes) _ (is .sizes-are)) $
@@ -455,15 +455,15 @@ module _ {M : Type 1} (𝓤 : URA M) (H : Heap 𝓤) (A : Atoms 𝓤) (W : Given
           42 refl (nums.typed 𝓤 H A W w8 16 (p .cards) _ (is .cards-are)) $
           sets ! {v = listed w8 (p .priorities)} (of-opd ! (member ! 48 3 plan-fields (bytes 16) 64 refl refl refl))
           40 refl (nums.typed 𝓤 H A W w8 16 (p .priorities) _ (is .priorities-are)) $
-          sets ! {v = listed w8 (p .counts)} (of-opd ! (member ! 48 5 plan-fields (bytes 32) 1104 refl refl refl))
+          sets ! {v = listed w8 (p .counts)} (of-opd ! (member ! 48 4 plan-fields (bytes 32) 80 refl refl refl))
           38 refl (nums.typed 𝓤 H A W w8 32 (p .counts) _ (is .counts-are)) $
-          sets ! {v = listed w8 (p .kinds)} (of-opd ! (member ! 48 6 plan-fields (bytes 512) 1136 refl refl refl))
+          sets ! {v = listed w8 (p .kinds)} (of-opd ! (member ! 48 5 plan-fields (bytes 512) 112 refl refl refl))
           36 refl (nums.typed 𝓤 H A W w8 512 (p .kinds) _ (is .kinds-are)) $
-          sets ! {v = listed w8 (p .targets)} (of-opd ! (member ! 48 7 plan-fields (bytes 512) 1648 refl refl refl))
+          sets ! {v = listed w8 (p .targets)} (of-opd ! (member ! 48 6 plan-fields (bytes 512) 624 refl refl refl))
           34 refl (nums.typed 𝓤 H A W w8 512 (p .targets) _ (is .targets-are)) $
-          sets ! {v = listed w8 (p .sources)} (of-opd ! (member ! 48 8 plan-fields (bytes 512) 2160 refl refl refl))
+          sets ! {v = listed w8 (p .sources)} (of-opd ! (member ! 48 7 plan-fields (bytes 512) 1136 refl refl refl))
           32 refl (nums.typed 𝓤 H A W w8 512 (p .sources) _ (is .sources-are)) $
-          sets ! {v = listed w32 (p .amounts)} (of-opd ! (member ! 48 9 plan-fields (words 512) 2672 refl refl refl))
+          sets ! {v = listed w32 (p .amounts)} (of-opd ! (member ! 48 8 plan-fields (words 512) 1648 refl refl refl))
           30 refl (nums.typed 𝓤 H A W w32 512 (p .amounts) _ (is .amounts-are)) $
           move ! (1 ∷ 0 ∷ 3 ∷ 2 ∷ []) $ pointed
 

@@ -4,7 +4,7 @@ use mathlib.Core.Path.{_≡_, refl}
 use native.Mathlib.Omega.{arith}
 use lib.ListN.{length, getD}
 use borrow.Author.Needs.{needs}
-use Rattle.format.specs.Stored.{table}
+use Rattle.format.specs.Plan.{table}
 use Rattle.model.specs.Steps.{inFirstPlaces}
 use Rattle.stores.proofs.Laws.{one-more}
 use Rattle.stores.proofs.publish.Statement.{statement}

@@ -1,53 +1,60 @@
 -- `open_store` meets its contract. Assumes nothing.
 use Prim.Native.Nat.{ℕ, _+_, _*_, _≤_}
-use mathlib.Core.Path.{sym, _∙_, ap}
+use mathlib.Core.Path.{sym, _∙_, ap, subst}
 use mathlib.Core.List.{List}
 use native.Mathlib.Omega.{arith}
-use borrow.Author.Needs.{needs}
-use lib.ListN.{length, take}
+use lib.ListN.{length}
 use lib.Seq.{paste}
+use denote.Ref.{now}
+use Rattle.format.specs.declared.Sizes.{Sizes}
 use Rattle.format.specs.Sound.{Sound}
-use Rattle.text_run.specs.Finishing.{thePlan, emptyStore}
-use Rattle.text_run.proofs.Laws.{taken, empty-length, products}
+use Rattle.format.proofs.Tables.{length-table}
+use Rattle.layout.specs.Puts.{part}
+use Rattle.layout.specs.PlanTable.{wordsAt, wordAt, sizesIn, planIn}
+use Rattle.text_run.specs.Finishing.{emptyStore}
+use Rattle.text_run.proofs.Laws.{empty-length, products}
+use borrow.Author.Needs.{needs}
 use Rattle.text_run.proofs.open_store.Statement.{statement}
 use Rattle.text_run.proofs.open_store.Tie as tie
 
--- The start, from where the sizes are known.
-abbrev begin : tie.After-words → tie.Start
-begin c = c .before .before .before
+-- The function's start, from where the sizes are known.
+abbrev begin : tie.After-sizes → tie.Start
+begin c = c .before .before
 
--- The plan is sound.
-sound : (s : tie.Start) → Sound (thePlan (s .args .plan))
-sound s = s .pre .0
+-- How many words the memory has, and where they go.
+abbrev memory : Sizes → ℕ
+memory z = z .blocks * z .words
+
+abbrev start : Sizes → ℕ
+start z = z .jobs * z .copies * z .words
 
 -- The memory fits the store behind the copy blocks.
-small : (s : tie.Start) →
-    let z = s .args .plan .sizes in
-    (z .blocks * z .words ≤ 256)
-    × ((z .jobs * z .copies ≤ 128) × (z .jobs * z .copies * z .words + z .blocks * z .words ≤ 2304))
-small s = products (s .args .plan .sizes) (sound s .jobs) (sound s .copies) (sound s .blocks) (sound s .words)
+small : (c : tie.After-sizes) →
+    let z = c .sizes .result in
+    (memory z ≤ 256) × ((z .jobs * z .copies ≤ 128) × (start z + memory z ≤ 2304))
+small c =
+    let ok = begin c .pre .0 in
+    subst (λ (z : Sizes). (memory z ≤ 256) × ((z .jobs * z .copies ≤ 128) × (start z + memory z ≤ 2304)))
+    (sym (c .sizes .ensures))
+    (products (sizesIn (now (begin c .args .plan))) (ok .jobs) (ok .copies) (ok .blocks) (ok .words))
+
+sizes-requires : tie.Need-sizes-requires
+sizes-requires c κs = search needs
 
 mul-memory : tie.Need-mul-memory
-mul-memory c = omega (arith, small (begin (c .before)) .0)
+mul-memory c = record { fits = omega (arith, small (c .before) .0) }
 
 mul-start : tie.Need-mul-start
-mul-start c = omega (arith, small (begin (c .before .before)) .1 .0)
+mul-start c = record { fits = omega (arith, small (c .before .before) .1 .0) }
 
 mul-start-2 : tie.Need-mul-start-2
-mul-start-2 c = omega (arith, small (begin (c .before .before .before)) .1 .1)
-
-array-share-prefix-words : tie.Need-array-share-prefix-words
-array-share-prefix-words c =
-    let s = begin (c .before .before .before .before) in
-    taken (s .args .plan .sizes .blocks * s .args .plan .sizes .words) (s .args .plan .words) (sound s .all-words)
-
-slice-aggregate-put-words : tie.Need-slice-aggregate-put-words
-slice-aggregate-put-words c = sym (sound (begin (c .before .before .before .before .before)) .all-words)
+mul-start-2 c = record { fits = omega (arith, small (c .before .before .before) .1 .1) }
 
 put-words-requires : tie.Need-put-words-requires
 put-words-requires c κs =
-    let s = begin (c .before .before .before .before .before) in
-    omega (arith, small s .1 .1, sound s .all-words, ap (λ (l : List ℕ). length l) (s .pre .1) ∙ empty-length)
+    let z = c .before .before .before .before in
+    let k = small z in
+    (omega (arith, k .1 .1, ap (λ (l : List ℕ). length l) (begin z .pre .1) ∙ empty-length), k .0)
 
 same-length : tie.Need-same-length
 same-length c = search needs
@@ -56,20 +63,24 @@ returns : tie.Need-returns
 unfolding emptyStore
 returns c =
     let p = c .before .before in
-    let s = begin (p .before .before .before .before .before .before) in
-    let z = s .args .plan .sizes in
-    let w = take (z .blocks * z .words) (s .args .plan .words) in
-    p .put-words .ensures ∙ ap (λ (l : List ℕ). paste l (z .jobs * z .copies * z .words) w (length w)) (s .pre .1)
+    let z = p .before .before .before .before .before in
+    let s = begin z in
+    let t = now (s .args .plan) in
+    p .put-words .ensures
+    ∙ ap (λ (l : List ℕ). paste l (start (z .sizes .result)) (part t wordsAt (memory (z .sizes .result)))
+    (memory (z .sizes .result))) (s .pre .1)
+    ∙ ap (λ (y : Sizes). paste emptyStore (start y) (part t wordsAt (memory y)) (memory y)) (z .sizes .ensures)
+    ∙ ap (λ n. paste emptyStore (start (sizesIn t)) (part t wordsAt (memory (sizesIn t))) n)
+    (sym (length-table (memory (sizesIn t)) (wordAt t)))
 
 pub open-store-spec : {M : Type 1} → statement M
 open-store-spec =
     tie.close
     (tie.spec
+    sizes-requires
     mul-memory
     mul-start
     mul-start-2
-    array-share-prefix-words
-    slice-aggregate-put-words
     put-words-requires
     same-length
     returns)

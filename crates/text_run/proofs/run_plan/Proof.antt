@@ -4,6 +4,7 @@ use mathlib.Core.Path.{refl, sym}
 use mathlib.Core.List.{List, [], _∷_}
 use lib.ListN.{length-replicate}
 use Rattle.text_run.specs.Finishing.{emptyStore}
+use borrow.Author.Needs.{needs}
 use Rattle.text_run.proofs.run_plan.Statement.{statement}
 use Rattle.text_run.proofs.run_plan.Tie as tie
 
@@ -13,11 +14,11 @@ slice-aggregate-run-lent c = sym (length-replicate {A = ℕ} 2304 0)
 run-lent-requires : tie.Need-run-lent-requires
 unfolding emptyStore
 run-lent-requires c κs =
-    let s = c .before .before .before .before .before .before .before .before in
+    let s = c .before .before .before .before .before .before .before in
     (s .pre, (refl, (refl, (refl, (refl, length-replicate {A = List ℕ} 4000 (0 ∷ 0 ∷ 0 ∷ []))))))
 
 same-length : tie.Need-same-length
-same-length c = c .before .before .before .run-lent .kept .1 .1 .1 .1 .1 .1 .1 .1 .1 .1 .0
+same-length c = search needs
 
 returns : tie.Need-returns
 returns c = c .before .before .before .run-lent .ensures

@@ -1,2 +1,0 @@
--- What reading an entry from its line promises.
-pub mod EntryLines

@@ -1,0 +1,111 @@
+-- What has been read stays as it was where a put leaves the places that it stands in. Assumes that the numbers of the
+-- reading are in their ranges, as Holds says.
+use Prim.Native.Nat.{ℕ, _+_, _*_, _≤_, _<_}
+use mathlib.Core.Path.{_≡_, sym, _∙_, ap, subst}
+use mathlib.Core.List.{List}
+use native.Mathlib.Nat.{mul-le-mul}
+use native.Mathlib.Omega.{arith}
+use lib.ListN.{length}
+use Rattle.format.specs.declared.Sizes.{Sizes}
+use Rattle.format.specs.declared.Move.{Move}
+use Rattle.format.specs.Plan.{Plan, table, written}
+use Rattle.format.specs.Faults.{lastOf}
+use Rattle.format.specs.Reading.{Outcome, sound}
+use Rattle.layout.specs.Puts.{part}
+use Rattle.layout.specs.PlanTable.{planPlaces, updatesAt, cardsAt, countsAt, wordsAt, movesAt}
+use Rattle.layout.specs.PlanTable.{sizesIn, updatesIn, jobAt, countAt, updateAt}
+use Rattle.layout.proofs.Puts.{Same, same-within}
+use Rattle.layout.proofs.PlanTable.{sizes-same, jobs-same, words-same, updates-same}
+use Rattle.line.specs.declared.Progress.{Progress}
+use Rattle.line.specs.Steps.{Ranged, Holds}
+
+-- The progress after one more line, with these numbers of jobs, blocks, blocks written and entries.
+abbrev pub onward : Progress → ℕ → ℕ → ℕ → ℕ → Progress
+onward p j b w e = record { lines = p .lines + 1; jobs = j; blocks = b; written = w; entries = e }
+
+-- Drafts of the same plan come to the same.
+pub drafted : (n b e : ℕ) {x y : Plan} → x ≡ y
+    → _≡_ {A = Outcome} (sound (record { lines = n; blocks = b; entries = e; plan = x }))
+    (sound (record { lines = n; blocks = b; entries = e; plan = y }))
+drafted n b e same = ap (λ (x : Plan). sound (record { lines = n; blocks = b; entries = e; plan = x })) same
+
+-- The numbers stay in their ranges where one line adds one of them.
+pub still-ranged : (p : Progress) (z : Sizes) (n j b u w e : ℕ) → Ranged p z n → p .lines < 65536 → j ≤ z .jobs
+    → b ≤ z .blocks → u ≤ 32 → w ≤ 8 → e ≤ 4000 → j + b + u + e ≤ p .lines + 1 → Ranged (onward p j b w e) z u
+still-ranged p z n j b u w e r room hj hb hu hw he sum =
+    record {
+      cards = r .cards;
+      jobs = r .jobs;
+      blocks = r .blocks;
+      words = r .words;
+      copies = r .copies;
+      jobs-read = hj;
+      blocks-read = hb;
+      updates-read = hu;
+      entries-read = he;
+      lines-read = omega arith;
+      blocks-written = hw;
+      in-lines = sum;
+    }
+
+module _ {p : Progress} {t : List ℕ} (h : Holds p t) where
+  -- A table where the sizes and the count of updates stay.
+  module _ {u : List ℕ} (sizes : Same 0 cardsAt t u) where
+    -- The sizes.
+    pub sizes-kept : sizesIn u ≡ sizesIn t
+    sizes-kept = sizes-same (same-within sizes 0 updatesAt (omega arith) (omega arith))
+
+    -- The count of updates.
+    pub count-kept : updatesIn u ≡ updatesIn t
+    count-kept = sizes .at updatesAt (omega arith) (omega arith)
+
+    -- Ranges.
+    pub ranged-kept : (q : Progress) → Ranged q (sizesIn t) (updatesIn t) → Ranged q (sizesIn u) (updatesIn u)
+    ranged-kept q r =
+        subst (λ (z : Sizes). Ranged q z (updatesIn u)) (sym sizes-kept)
+        (subst (λ n. Ranged q (sizesIn t) n) (sym count-kept) r)
+
+  module _ {u : List ℕ} (sizes : sizesIn u ≡ sizesIn t) where
+    -- The opening words.
+    pub words-kept : Same wordsAt movesAt t u
+        → part u wordsAt (p .blocks * sizesIn u .words) ≡ part t wordsAt (p .blocks * sizesIn t .words)
+    words-kept words =
+        let few : p .blocks ≤ 16 = omega (arith, h .ranged .blocks-read, h .ranged .blocks) in
+        ap (λ (z : Sizes). part u wordsAt (p .blocks * z .words)) sizes
+        ∙ words-same (p .blocks * sizesIn t .words) (mul-le-mul few (h .ranged .words)) words
+
+  -- The jobs.
+  pub jobs-kept : {u : List ℕ} → Same cardsAt countsAt t u → table (p .jobs) (jobAt u) ≡ table (p .jobs) (jobAt t)
+  jobs-kept jobs = jobs-same (p .jobs) (omega (arith, h .ranged .jobs-read, h .ranged .jobs)) jobs
+
+  module _ {u : List ℕ} (count : updatesIn u ≡ updatesIn t) (counts : Same countsAt wordsAt t u)
+      (moves : Same movesAt planPlaces t u) where
+    -- The updates.
+    pub updates-kept : table (updatesIn u) (updateAt u) ≡ table (updatesIn t) (updateAt t)
+    updates-kept =
+        let few = h .ranged .updates-read in
+        ap (λ n. table n (updateAt u)) count
+        ∙ updates-same (updatesIn t) few (h .filled)
+        (same-within counts countsAt (countsAt + updatesIn t) (omega arith) (omega arith))
+        (same-within moves movesAt (movesAt + 8 * (16 * updatesIn t)) (omega arith) (omega arith))
+
+    -- Their counts of moves.
+    filled-kept : (v : ℕ) → v < updatesIn u → countAt u v ≤ 16
+    filled-kept v l =
+        let few = h .ranged .updates-read in
+        subst (λ n. n ≤ 16) (sym (counts .at (countsAt + v) (omega arith) (omega (arith, count))))
+        (h .filled v (omega (arith, count)))
+
+    -- What a reading needs still holds, with the updates as they were.
+    pub holds-kept : (q : Progress) → sizesIn u ≡ sizesIn t → Ranged q (sizesIn u) (updatesIn u)
+        → length u ≡ length t → q .written ≡ p .written → Holds q u
+    holds-kept q sizes r long same =
+        record {
+          ranged = r;
+          room = long ∙ h .room;
+          filled = filled-kept;
+          counted =
+              same
+              ∙ h .counted
+              ∙ sym (λ i. length (written (sizes i .words) (lastOf (updates-kept i))));
+        }

@@ -1,0 +1,3 @@
+-- Laws of the plan's arrays.
+pub mod Filling
+pub mod Plans

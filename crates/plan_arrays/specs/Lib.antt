@@ -1,0 +1,2 @@
+-- What the arrays of a plan hold.
+pub mod Arrays

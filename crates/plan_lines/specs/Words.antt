@@ -1,0 +1,16 @@
+-- The numbers of a line, read into a part of a table. Numbers is declared in the crate text. Assumes nothing.
+use Prim.Native.Nat.{ℕ}
+use mathlib.Core.Path.{_≡_}
+use mathlib.Core.List.{List}
+use lib.ListN.{length}
+use Rattle.text.specs.declared.Numbers.{Numbers}
+use Rattle.text.specs.Lines.{numbers}
+use Rattle.text.specs.Places.{readInto}
+use Rattle.layout.specs.Puts.{Put}
+
+-- The answer is that of n numbers in the fields fs; what it speaks of was put from a place on.
+pub record WordsRead (r : Numbers) (from n : ℕ) (fs : List (List ℕ)) (t u : List ℕ) : Type 0 where
+  pub ns : List ℕ
+  pub many : length ns ≡ n
+  pub read : readInto r ns ≡ numbers n fs
+  pub put : Put from ns t u
