@@ -14,7 +14,7 @@ use Rattle.format.specs.Plan.{table, target}
 use Rattle.format.proofs.Tables.{table-same, table-more}
 use Rattle.layout.specs.Puts.{part, Put}
 use Rattle.layout.specs.PlanTable.{planPlaces, updatesAt, cardsAt, prioritiesAt, countsAt, wordsAt, movesAt}
-use Rattle.layout.specs.PlanTable.{sizesIn, updatesIn, jobAt, countAt, moveStart, moveAt, updateAt}
+use Rattle.layout.specs.PlanTable.{sizesIn, jobAt, countAt, moveStart, moveAt, updateAt}
 use Rattle.layout.specs.PlanTable.{moveOf, codeOf, sourceOf, amountOf, numbersOf}
 use Rattle.layout.proofs.Puts.{Same, outside, same-then, same-within, put-there}
 use Rattle.layout.proofs.Tables.{table-add, table-of}

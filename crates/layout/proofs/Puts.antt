@@ -8,7 +8,7 @@ use native.Mathlib.Decide.{decLt}
 use native.Mathlib.Omega.{arith}
 use lib.ListN.{length, getD, set, take, drop, length-set, length-append, List·getD-append}
 use lib.Seq.{getD-set-same, getD-set-other, getD-append-add, getD-take, getD-drop, length-take-le}
-use borrow.Rule.Slice.PartMut.{putMid, postOf, midOf, mid-len, same-len-mid}
+use borrow.Rule.Slice.PartMut.{putMid, postOf, mid-len, same-len-mid}
 use Rattle.layout.specs.Puts.{Put}
 
 -- One number.

@@ -9,7 +9,7 @@ ghost use Rattle.layout.specs.Puts.{Put};
 ghost use Rattle.layout.specs.PlanTable.{planPlaces, updatesAt, cardsAt, prioritiesAt, countsAt, moveStart};
 ghost use Rattle.layout.specs.PlanTable.{sizesIn, updatesIn, jobAt, countAt, wordAt, kindAt, targetAt};
 ghost use Rattle.layout.specs.PlanTable.{sourceAt, amountAt, codeOf, sourceOf, amountOf, numbersOf};
-ghost use Rattle.layout.specs.EntryTable.{entryPlaces, entryStart, notesOf, listedAt};
+ghost use Rattle.layout.specs.EntryTable.{entryStart, notesOf, listedAt};
 use format::Entry;
 use format::Move;
 use format::Sizes;

@@ -1,5 +1,5 @@
 -- The words that a move names and the blocks that an update writes, as the program computes them. Assumes nothing.
-use Prim.Native.Nat.{ℕ, zero, suc, _+_, _*_, _≤_, _<_}
+use Prim.Native.Nat.{ℕ, zero, suc, _+_, _*_, _<_}
 use mathlib.Core.Path.{_≡_, _∙_}
 use mathlib.Core.Bool.{false, cond, _||_}
 use mathlib.Core.List.{List, [], _∷_, _++_}
@@ -12,7 +12,7 @@ use Rattle.text.proofs.Cases.{neither, by-test}
 use Rattle.format.specs.declared.Move.{Move}
 use Rattle.format.specs.Plan.{blockOf, target, named, written, table}
 use Rattle.format.specs.Faults.{someFrom}
-use Rattle.layout.specs.PlanTable.{moveOf, sourceOf, kindAt, targetAt, sourceAt, amountAt}
+use Rattle.layout.specs.PlanTable.{moveOf, kindAt, targetAt, sourceAt, amountAt}
 use Rattle.layout.specs.PlanTable.{countAt, moveAt, updateAt}
 use Rattle.line.specs.Steps.{writesTo}
 use Rattle.line.proofs.Stores.{any-alike}

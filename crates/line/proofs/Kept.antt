@@ -7,7 +7,6 @@ use native.Mathlib.Nat.{mul-le-mul}
 use native.Mathlib.Omega.{arith}
 use lib.ListN.{length}
 use Rattle.format.specs.declared.Sizes.{Sizes}
-use Rattle.format.specs.declared.Move.{Move}
 use Rattle.format.specs.Plan.{Plan, table, written}
 use Rattle.format.specs.Faults.{lastOf}
 use Rattle.format.specs.Reading.{Outcome, sound}

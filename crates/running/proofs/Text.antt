@@ -1,14 +1,13 @@
 -- A run of a text's entries goes on entry by entry: one that is not refused brings the run one entry further, a refused
 -- one ends it, and so does the last. Assumes a sound plan.
-use Prim.Native.Nat.{ℕ, suc, _+_, _≤_, _<_}
+use Prim.Native.Nat.{ℕ, _+_, _≤_, _<_}
 use mathlib.Core.Path.{_≡_, refl, sym, _∙_, ap, subst}
 use mathlib.Core.List.{List, [], _∷_, _++_, append-assoc}
 use mathlib.Core.Option.{Option, none, some}
 use native.Mathlib.Numerals.{add-one}
 use native.Mathlib.Omega.{arith}
 use lib.ListN.{length, getD, take, drop, length-map}
-use lib.Seq.{split-at, take-suc, take-all, length-take-le}
-use Rattle.format.specs.declared.Entry.{Entry}
+use lib.Seq.{split-at, take-suc, take-all}
 use Rattle.format.specs.Plan.{Plan, Listed}
 use Rattle.format.specs.Sound.{Sound}
 use Rattle.format.proofs.Tables.{length-table, getD-table}

@@ -1,6 +1,6 @@
 -- `take_moves` fills the numbers of the moves place by place. Assumes nothing.
 use Prim.Native.Nat.{_≤_, _-_}
-use mathlib.Core.Path.{_≡_, _∙_, ap}
+use mathlib.Core.Path.{_∙_, ap}
 use native.Mathlib.Omega.{arith}
 use borrow.Author.Needs.{needs}
 use Rattle.layout.specs.PlanTable.{kindAt, targetAt, sourceAt, amountAt}

@@ -1,5 +1,4 @@
 -- `entry_line` notes an entry with its line. Assumes nothing.
-use native.Mathlib.Omega.{arith}
 use Rattle.line.proofs.Lines.{malformed, many-entries, entry-read}
 use borrow.Author.Needs.{needs}
 use Rattle.plan_lines.proofs.entry_line.Statement.{statement}

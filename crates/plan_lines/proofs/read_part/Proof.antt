@@ -1,5 +1,5 @@
 -- `read_part` lends the part to `read_numbers`. Assumes nothing.
-use mathlib.Core.Path.{_∙_, sym, ap}
+use mathlib.Core.Path.{_∙_, ap}
 use borrow.Rule.Slice.PartMut.{mid-len}
 use denote.Ref.{now}
 use Rattle.text.specs.Lines.{numbers}

@@ -1,5 +1,5 @@
 -- `run_entries` runs entry after entry. Assumes nothing.
-use Prim.Native.Nat.{ℕ, _-_, _≤_, _<_}
+use Prim.Native.Nat.{_-_, _≤_}
 use mathlib.Core.Path.{_≡_, sym, _∙_, subst}
 use mathlib.Core.List.{List, [], _∷_, _++_}
 use native.Mathlib.Omega.{arith}
@@ -13,7 +13,7 @@ use Rattle.layout.specs.PlanTable.{planIn}
 use Rattle.layout.specs.EntryTable.{listedAt, listedIn}
 use Rattle.plan_arrays.specs.declared.PlanArrays.{PlanArrays}
 use Rattle.running.specs.Rans.{going, progressBy}
-use Rattle.running.specs.Schedules.{entriesIn, Lent, lent, Stored, Reached, Enters, Going, Starts}
+use Rattle.running.specs.Schedules.{entriesIn, Lent, lent, Stored, Reached, Enters, Going}
 use Rattle.running.proofs.Starting.{whole-store}
 use Rattle.running.proofs.Text.{stored-plan, few-entries, first-entry, all-store, finish, behind, enters}
 use Rattle.running.proofs.Text.{go-on, refuse}

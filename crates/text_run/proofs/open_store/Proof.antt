@@ -7,10 +7,9 @@ use lib.ListN.{length}
 use lib.Seq.{paste}
 use denote.Ref.{now}
 use Rattle.format.specs.declared.Sizes.{Sizes}
-use Rattle.format.specs.Sound.{Sound}
 use Rattle.format.proofs.Tables.{length-table}
 use Rattle.layout.specs.Puts.{part}
-use Rattle.layout.specs.PlanTable.{wordsAt, wordAt, sizesIn, planIn}
+use Rattle.layout.specs.PlanTable.{wordsAt, wordAt, sizesIn}
 use Rattle.text_run.specs.Finishing.{emptyStore}
 use Rattle.text_run.proofs.Laws.{empty-length, products}
 use borrow.Author.Needs.{needs}

@@ -1,6 +1,6 @@
 -- `run_lent` meets its contract. Assumes nothing.
 use Prim.Native.Nat.{ℕ, _≤_}
-use mathlib.Core.Path.{_≡_, refl, sym, _∙_, ap, subst}
+use mathlib.Core.Path.{sym, _∙_, ap, subst}
 use mathlib.Core.List.{List}
 use borrow.Author.Needs.{needs}
 use denote.Ref.{now}
@@ -8,7 +8,7 @@ use lib.ListN.{length}
 use Rattle.format.specs.declared.Sizes.{Sizes}
 use Rattle.format.specs.Plan.{Listed}
 use Rattle.format.specs.Sound.{Sound}
-use Rattle.layout.specs.PlanTable.{sizesIn, planIn}
+use Rattle.layout.specs.PlanTable.{planIn}
 use Rattle.layout.specs.EntryTable.{listedIn}
 use Rattle.runs.specs.Report.{endNumber, endLine}
 use Rattle.runs.specs.Runs.{lineIn, reported}
