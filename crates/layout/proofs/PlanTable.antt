@@ -118,29 +118,30 @@ words-more {t} {u} b s ws room many p =
         rw here (p .there (omega (arith, many)) w (omega (arith, many))))
         ∙ table-of s ws many
 
+-- The updates with another last one, where those before it have at most 16 moves each and stay.
+last-more : {t u : List ℕ} (n : ℕ) (ms : List Move) → n < 32 → ((v : ℕ) → v < n → countAt t v ≤ 16)
+    → Same countsAt (countsAt + n) t u → Same movesAt (moveStart (16 * n)) t u → updateAt u n ≡ ms
+    → table (n + 1) (updateAt u) ≡ table n (updateAt t) ++ (ms ∷ [])
+last-more {t} {u} n ms few filled counts moves last =
+    ap (λ k. table k (updateAt u)) (add-one n)
+    ∙ (λ i. updates-same n (omega arith) filled counts moves i ++ (last i ∷ []))
+
 -- One more update, without moves.
 pub updates-more : {t s u : List ℕ} (n m : ℕ) → n < 32 → length t ≡ planPlaces
     → ((v : ℕ) → v < n → countAt t v ≤ 16) → Put (countsAt + n) (0 ∷ []) t s → Put updatesAt (m ∷ []) s u
     → table (n + 1) (updateAt u) ≡ table n (updateAt t) ++ ([] ∷ [])
 updates-more {t} {s} {u} n m few room filled p q =
-    ap (λ k. table k (updateAt u)) (add-one n)
-    ∙ (λ i. before i ++ (last i ∷ []))
+    last-more n [] few filled
+    (same-then (outside p countsAt (countsAt + n) (inl (omega arith)))
+    (outside q countsAt (countsAt + n) (inr (omega arith))))
+    (same-then (outside p movesAt (moveStart (16 * n)) (inr (omega arith)))
+    (outside q movesAt (moveStart (16 * n)) (inr (omega arith))))
+    (ap (λ c. table c (λ i. moveAt u (16 * n + i))) none)
   where
-    before : table n (updateAt u) ≡ table n (updateAt t)
-    before =
-        updates-same n (omega arith) filled
-        (same-then (outside p countsAt (countsAt + n) (inl (omega arith)))
-        (outside q countsAt (countsAt + n) (inr (omega arith))))
-        (same-then (outside p movesAt (moveStart (16 * n)) (inr (omega arith)))
-        (outside q movesAt (moveStart (16 * n)) (inr (omega arith))))
-
     none : countAt u n ≡ 0
     none =
         outside q countsAt wordsAt (inr (omega arith)) .at (countsAt + n) (omega arith) (omega arith)
         ∙ put-there p (omega arith)
-
-    last : updateAt u n ≡ []
-    last = ap (λ c. table c (λ i. moveAt u (16 * n + i))) none
 
 -- Numbers stored for a move stand for it.
 stands-for : (m : Move) → moveOf (codeOf m) (target m) (sourceOf m) (amountOf m) ≡ m
@@ -154,17 +155,13 @@ pub moves-more : {t s u : List ℕ} (n c : ℕ) (m : Move) → n < 32 → c < 16
     → Put (moveStart (16 * n + c)) (numbersOf m) t s → Put (countsAt + n) ((c + 1) ∷ []) s u
     → table (n + 1) (updateAt u) ≡ table n (updateAt t) ++ ((updateAt t n ++ (m ∷ [])) ∷ [])
 moves-more {t} {s} {u} n c m few short room filled count p q =
-    ap (λ k. table k (updateAt u)) (add-one n)
-    ∙ (λ i. before i ++ (last i ∷ []))
+    last-more n (updateAt t n ++ (m ∷ [])) few filled
+    (same-then (outside p countsAt (countsAt + n) (inl (omega arith)))
+    (outside q countsAt (countsAt + n) (inl (omega arith))))
+    (same-then (outside p movesAt (moveStart (16 * n)) (inl (omega arith)))
+    (outside q movesAt (moveStart (16 * n)) (inr (omega arith))))
+    last
   where
-    before : table n (updateAt u) ≡ table n (updateAt t)
-    before =
-        updates-same n (omega arith) filled
-        (same-then (outside p countsAt (countsAt + n) (inl (omega arith)))
-        (outside q countsAt (countsAt + n) (inl (omega arith))))
-        (same-then (outside p movesAt (moveStart (16 * n)) (inl (omega arith)))
-        (outside q movesAt (moveStart (16 * n)) (inr (omega arith))))
-
     -- The moves that the second put leaves.
     sames : Same movesAt planPlaces s u
     sames = outside q movesAt planPlaces (inr (omega arith))

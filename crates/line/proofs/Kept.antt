@@ -3,6 +3,7 @@
 use Prim.Native.Nat.{ℕ, _+_, _*_, _≤_, _<_}
 use mathlib.Core.Path.{_≡_, sym, _∙_, ap, subst}
 use mathlib.Core.List.{List}
+use native.Mathlib.Decide.{decLt}
 use native.Mathlib.Nat.{mul-le-mul}
 use native.Mathlib.Omega.{arith}
 use lib.ListN.{length}
@@ -46,6 +47,16 @@ still-ranged p z n j b u w e r room hj hb hu hw he sum =
       blocks-written = hw;
       in-lines = sum;
     }
+
+-- No update has more than 16 moves, where the last one has c and those before it are as they were.
+pub last-filled : (t u : List ℕ) (n c : ℕ) → ((v : ℕ) → v < n → countAt t v ≤ 16) → Same countsAt (countsAt + n) t u
+    → countAt u n ≡ c → c ≤ 16 → (v : ℕ) → v < n + 1 → countAt u v ≤ 16
+last-filled t u n c earlier counts last few v l =
+    elim (decLt v n) [
+      | yes k ↦
+          subst (λ m. m ≤ 16) (sym (counts .at (countsAt + v) (omega arith) (omega arith))) (earlier v k)
+      | no k ↦ let same : v ≡ n = omega arith in rw (same, last) few
+    ]
 
 module _ {p : Progress} {t : List ℕ} (h : Holds p t) where
   -- A table where the sizes and the count of updates stay.

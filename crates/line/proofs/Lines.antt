@@ -9,7 +9,6 @@ use mathlib.Core.Option.{Option, none, some}
 use native.Mathlib.Nat.{zero-mul, mul-le-mul, add-mul, one-mul}
 use native.Mathlib.Numerals.{add-one}
 use native.Mathlib.Omega.{arith}
-use native.Mathlib.Decide.{decLt}
 use borrow.Author.Tests.{leb-true, le-leb, lt-leb, lt-ltb, le-ltb}
 use lib.Dec.{ltb, leb}
 use lib.ListN.{length}
@@ -40,8 +39,8 @@ use Rattle.line.specs.Steps.{Tables, tables, draftOf, Ranged, Holds, Not
 use Rattle.line.proofs.Judged.{bad-fields, plan-judged, job-judged, block-judged}
 use Rattle.line.proofs.Judged.{update-judged, move-judged, entry-judged}
 use Rattle.line.proofs.Stores.{last-is, added-last}
-use Rattle.line.proofs.Kept.{onward, drafted, still-ranged, sizes-kept, count-kept, ranged-kept}
-use Rattle.line.proofs.Kept.{words-kept, jobs-kept, updates-kept, holds-kept}
+use Rattle.line.proofs.Kept.{onward, drafted, still-ranged, last-filled, sizes-kept, count-kept}
+use Rattle.line.proofs.Kept.{ranged-kept, words-kept, jobs-kept, updates-kept, holds-kept}
 
 -- A line that says no entry notes none.
 silent : (p q : Progress) (e : List ℕ) (i : Option Item) → q .entries ≡ p .entries → listed (p .lines + 1) i ≡ []
@@ -412,15 +411,14 @@ update-read p t s u e i n says-it place few room h put put′ =
 
     filled : (v : ℕ) → v < updatesIn u → countAt u v ≤ 16
     filled v l =
-        subst (λ m. m ≤ 16) (sym (outside put′ countsAt wordsAt (inr (omega arith)) .at (countsAt + v) (omega arith)
-        (omega (arith, count, few))))
-        (elim (decLt v n) [
-          | yes k ↦
-              subst (λ m. m ≤ 16) (sym (put .kept (countsAt + v) (λ a b. omega arith))) (earlier v k)
-          | no k ↦
-              let same : v ≡ n = omega (arith, count) in
-              rw (same, put-there put (omega (arith, h .room))) (omega arith)
-        ])
+        last-filled t u n 0 earlier
+        (same-then (outside put countsAt (countsAt + n) (inl (omega arith)))
+        (outside put′ countsAt (countsAt + n) (inr (omega arith))))
+        (outside put′ countsAt wordsAt (inr (omega arith)) .at (countsAt + n) (omega arith) (omega arith)
+        ∙ put-there put (omega (arith, h .room)))
+        (omega arith)
+        v
+        (omega (arith, count))
 
 -- The 4,001st entry.
 pub many-entries : (k : Kind) (p : Progress) (x x′ : Tables) (i : Option Item) (y : Entry) → i ≡ some (entry y)
@@ -603,12 +601,10 @@ move-read k p t s u e i m n c w says-it place count few small room h good blocks
 
     filled : (v : ℕ) → v < updatesIn u → countAt u v ≤ 16
     filled v l =
-        elim (decLt v n) [
-          | yes k ↦
-              subst (λ l. l ≤ 16)
-              (sym (put′ .kept (countsAt + v) (λ a b. omega arith) ∙ put .kept (countsAt + v) (λ a b. omega arith)))
-              (earlier v k)
-          | no k ↦
-              let same : v ≡ n = omega (arith, count-kept h first, place) in
-              rw (same, put-there put′ (omega (arith, put .long, h .room, low))) (omega arith)
-        ]
+        last-filled t u n (c + 1) earlier
+        (same-then (outside put countsAt (countsAt + n) (inl (omega arith)))
+        (outside put′ countsAt (countsAt + n) (inl (omega arith))))
+        (put-there put′ (omega (arith, put .long, h .room, low)))
+        (omega arith)
+        v
+        (omega (arith, count-kept h first, place))
