@@ -8,7 +8,7 @@ ghost use Rattle.line.specs.Steps.{writesTo};
 use format::Sizes;
 use layout::PLAN_PLACES;
 
-// Whether one of the n moves from one on writes a block of the given size.
+// Whether one of the n moves from move `from` on writes a block, where blocks have this size.
 fn writes_block(plan: &[u32; PLAN_PLACES], from: usize, n: usize, size: u32, block: u32) -> bool
     requires { ⌜ (from + n ≤ 512) × (0 < size) ⌝ }
     ensures { λ r. ⌜ r ≡ writesTo size block (table n (λ i. targetAt (now (plan .entry)) (from + i))) ⌝ }

@@ -49,7 +49,7 @@ put-more {at} {ns} {ms} {t} {u} {v} p q =
           ];
     }
 
--- Numbers that are others.
+-- Equal numbers.
 pub put-alike : {at : ℕ} {ns ms t u : List ℕ} → ns ≡ ms → Put at ns t u → Put at ms t u
 put-alike {at} {ns} {ms} {t} {u} same p = subst (λ (xs : List ℕ). Put at xs t u) same p
 

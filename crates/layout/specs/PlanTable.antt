@@ -25,22 +25,27 @@ use Rattle.layout.specs.Puts.{part}
 abbrev pub planPlaces : ℕ
 planPlaces = 4424
 
--- Where each part begins.
+-- Where the count of updates stands.
 abbrev pub updatesAt : ℕ
 updatesAt = 5
 
+-- Where the jobs' cards begin.
 abbrev pub cardsAt : ℕ
 cardsAt = 8
 
+-- Where the jobs' priorities begin.
 abbrev pub prioritiesAt : ℕ
 prioritiesAt = 24
 
+-- Where the updates' counts of moves begin.
 abbrev pub countsAt : ℕ
 countsAt = 40
 
+-- Where the opening words begin.
 abbrev pub wordsAt : ℕ
 wordsAt = 72
 
+-- Where the moves begin.
 abbrev pub movesAt : ℕ
 movesAt = 328
 
@@ -70,7 +75,7 @@ amountOf (Move.Add d a k) = k
 abbrev pub numbersOf : Move → List ℕ
 numbersOf m = codeOf m ∷ target m ∷ sourceOf m ∷ amountOf m ∷ []
 
--- The move that numbers stand for.
+-- The move that numbers stand for; from 2 on every number is an add's.
 abbrev pub moveOf : ℕ → ℕ → ℕ → ℕ → Move
 moveOf code d a k = cond (eqb code 0) (Move.Copy d a) (cond (eqb code 1) (Move.Set d k) (Move.Add d a k))
 
@@ -95,16 +100,19 @@ countAt t u = getD t (countsAt + u) 0
 abbrev pub wordAt : List ℕ → ℕ → ℕ
 wordAt t w = getD t (wordsAt + w) 0
 
--- The numbers of move m.
+-- The number of move m's kind.
 abbrev pub kindAt : List ℕ → ℕ → ℕ
 kindAt t m = getD t (moveStart m) 0
 
+-- The word that move m writes.
 abbrev pub targetAt : List ℕ → ℕ → ℕ
 targetAt t m = getD t (moveStart m + 1) 0
 
+-- The word that move m reads.
 abbrev pub sourceAt : List ℕ → ℕ → ℕ
 sourceAt t m = getD t (moveStart m + 2) 0
 
+-- The number k of move m.
 abbrev pub amountAt : List ℕ → ℕ → ℕ
 amountAt t m = getD t (moveStart m + 3) 0
 

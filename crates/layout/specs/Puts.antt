@@ -9,7 +9,8 @@ use Rattle.format.specs.Plan.{table}
 abbrev pub part : List ℕ → ℕ → ℕ → List ℕ
 part t at n = table n (λ i. getD t (at + i) 0)
 
--- The table u is t with the numbers ns put from a place on: every other place holds what it held.
+-- The table u is t with the numbers ns put from a place on: they stand there, where t has room for them, and every
+-- other place holds what it held.
 pub record Put (at : ℕ) (ns t u : List ℕ) : Type 0 where
   pub long : length u ≡ length t
   pub kept : (j : ℕ) → (at ≤ j → j < at + length ns → ⊥) → getD u j 0 ≡ getD t j 0

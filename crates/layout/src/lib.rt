@@ -1,5 +1,5 @@
-// Where the numbers of a plan and of a text's entries stand in the tables that are lent, and an accessor for each. No
-// other crate knows a place of a plan's table, but for where its opening words begin.
+// Where the numbers of a plan and of a text's entries stand in the tables that are lent, and an accessor for each. The
+// code of no other crate knows a place of a table, but for where the opening words begin.
 ghost use mathlib.Core.Path.{_≡_};
 ghost use mathlib.Core.List.{[], _∷_};
 ghost use Prim.Native.Nat.{_+_, _<_};
@@ -20,27 +20,32 @@ pub const PLAN_PLACES: usize = 4424;
 // How many numbers the table of a text's entries has.
 pub const ENTRY_PLACES: usize = 16000;
 
-// Where the opening words begin.
-pub const WORDS: usize = 72;
-
-// Where the other parts of a plan's table begin; the sizes come first.
+// Where the count of updates stands; the sizes come first.
 const UPDATES: usize = 5;
 
+// Where the jobs' cards begin.
 const CARDS: usize = 8;
 
+// Where the jobs' priorities begin.
 const PRIORITIES: usize = 24;
 
+// Where the updates' counts of moves begin.
 const COUNTS: usize = 40;
 
+// Where the opening words begin. The reader puts a block's words there as it reads them.
+pub const WORDS: usize = 72;
+
+// Where the moves begin.
 const MOVES: usize = 328;
 
-// How many places a move has, and an entry.
+// How many places a move has.
 const MOVE: usize = 8;
 
+// How many places an entry has.
 const ENTRY: usize = 4;
 
 // A number of a table as a size.
-fn wide(n: u32) -> usize
+pub fn wide(n: u32) -> usize
     ensures { λ r. ⌜ r ≡ n ⌝ }
 {
     n as usize

@@ -15,7 +15,7 @@ use Rattle.format.specs.Faults.{someFrom}
 use Rattle.layout.specs.PlanTable.{moveOf, kindAt, targetAt, sourceAt, amountAt}
 use Rattle.layout.specs.PlanTable.{countAt, moveAt, updateAt}
 use Rattle.line.specs.Steps.{writesTo}
-use Rattle.line.proofs.Stores.{any-alike}
+use Rattle.line.proofs.Search.{any-alike}
 use Rattle.line.proofs.Written.{writes, counted-more}
 
 -- A move that names no word past the memory writes below its limit.

@@ -12,7 +12,7 @@ use Rattle.format.specs.Plan.{Plan, table, written}
 use Rattle.format.specs.Faults.{lastOf}
 use Rattle.format.specs.Reading.{Outcome, sound}
 use Rattle.layout.specs.Puts.{part}
-use Rattle.layout.specs.PlanTable.{planPlaces, updatesAt, cardsAt, countsAt, wordsAt, movesAt}
+use Rattle.layout.specs.PlanTable.{planPlaces, updatesAt, cardsAt, countsAt, wordsAt, movesAt, moveStart}
 use Rattle.layout.specs.PlanTable.{sizesIn, updatesIn, jobAt, countAt, updateAt}
 use Rattle.layout.proofs.Puts.{Same, same-within}
 use Rattle.layout.proofs.PlanTable.{sizes-same, jobs-same, words-same, updates-same}
@@ -97,7 +97,7 @@ module _ {p : Progress} {t : List ℕ} (h : Holds p t) where
         ap (λ n. table n (updateAt u)) count
         ∙ updates-same (updatesIn t) few (h .filled)
         (same-within counts countsAt (countsAt + updatesIn t) (omega arith) (omega arith))
-        (same-within moves movesAt (movesAt + 8 * (16 * updatesIn t)) (omega arith) (omega arith))
+        (same-within moves movesAt (moveStart (16 * updatesIn t)) (omega arith) (omega arith))
 
     -- Their counts of moves.
     filled-kept : (v : ℕ) → v < updatesIn u → countAt u v ≤ 16

@@ -1,8 +1,8 @@
 -- Laws that several proofs of this crate cite.
 pub mod Search
 pub mod Judged
-pub mod Tables
-pub mod Stores
+pub mod Lacking
+pub mod Updates
 pub mod Written
 pub mod Kept
 pub mod Lines

@@ -38,7 +38,7 @@ use Rattle.line.specs.declared.LineRead.{LineRead}
 use Rattle.line.specs.Steps.{Tables, tables, draftOf, Ranged, Holds, Noted, LineStep}
 use Rattle.line.proofs.Judged.{bad-fields, plan-judged, job-judged, block-judged}
 use Rattle.line.proofs.Judged.{update-judged, move-judged, entry-judged}
-use Rattle.line.proofs.Stores.{last-is, added-last}
+use Rattle.line.proofs.Updates.{last-is, added-last}
 use Rattle.line.proofs.Kept.{onward, drafted, still-ranged, last-filled, sizes-kept, count-kept}
 use Rattle.line.proofs.Kept.{ranged-kept, words-kept, jobs-kept, updates-kept, holds-kept}
 

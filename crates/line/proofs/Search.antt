@@ -1,6 +1,7 @@
--- A search through a table: what a loop knows that has passed the first places. Assumes nothing.
+-- A search through a table: what a loop knows that has passed the first places, and tables in which it finds alike.
+-- Assumes nothing.
 use Prim.Native.Nat.{ℕ, zero, suc, _+_, _<_}
-use mathlib.Core.Path.{_≡_, sym, _∙_}
+use mathlib.Core.Path.{_≡_, refl, sym, _∙_}
 use mathlib.Core.Bool.{Bool, true, false, _||_, or-true, or-false, or-assoc}
 use mathlib.Core.List.{List, [], _∷_, _++_}
 use native.Mathlib.Numerals.{add-one}
@@ -26,3 +27,15 @@ module _ {A : Type 0} (P : A → Bool) where
       go : Dec (i < n) → (i < n → any P (table n f) ≡ true) → (any P (table n f) || P (f n)) ≡ true
       go (yes l) below = rw (below l)
       go (no l) below = let e : i ≡ n = omega arith in rw (← e, k) (or-true (any P (table i f)))
+
+-- A search finds in two tables alike what it finds at each place alike.
+pub any-alike : {A B : Type 0} (P : A → Bool) (Q : B → Bool) (n : ℕ) (f : ℕ → A) (g : ℕ → B)
+    → ((i : ℕ) → i < n → P (f i) ≡ Q (g i)) → any P (table n f) ≡ any Q (table n g)
+any-alike P Q zero f g h = refl
+any-alike P Q (suc n) f g h =
+    rw (
+      any-last P (table n f) (f n),
+      any-last Q (table n g) (g n),
+      any-alike P Q n f g (λ i l. h i (omega arith)),
+      h n (omega arith),
+    )

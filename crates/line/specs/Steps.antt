@@ -11,9 +11,9 @@ use Rattle.format.specs.declared.Form.{Form}
 use Rattle.format.specs.declared.Kind.{Kind}
 use Rattle.format.specs.declared.Sizes.{Sizes}
 use Rattle.format.specs.Plan.{any, blockOf, written}
-use Rattle.format.specs.Items.{Item, move, entry, Record, recordOf}
+use Rattle.format.specs.Items.{Item, move, entry, Record}
 use Rattle.format.specs.Faults.{Draft, hasFault, stands, isUnknown, lastOf}
-use Rattle.format.specs.Reading.{Outcome, refused, sound, after, firstOf, byNumber, orElse, listed}
+use Rattle.format.specs.Reading.{Outcome, refused, sound, after, firstOf, byNumber, orElse, recordIn, listed}
 use Rattle.layout.specs.PlanTable.{planPlaces, sizesIn, updatesIn, countAt, planUpTo}
 use Rattle.layout.specs.EntryTable.{listedIn}
 use Rattle.line.specs.declared.Progress.{Progress}
@@ -98,15 +98,15 @@ pub record LineStep (kind : Kind) (p : Progress) (x x′ : Tables) (i : Option I
   pub holds : HoldsAfter r (x′ .plan)
   pub noted : NotedAfter p r (x .entries) (x′ .entries) i
 
--- What a line of these bytes says, after lines that gave the plan's table t.
-abbrev pub itemIn : List ℕ → List ℕ → Record
-itemIn t bytes = recordOf (sizesIn t .words) (record { bytes = bytes; ended = true })
+-- A line of these bytes taken apart, after lines that gave the progress p and the plan's table t.
+abbrev pub recordAt : Progress → List ℕ → List ℕ → Record
+recordAt p t bytes = recordIn (draftOf p t) (record { bytes = bytes; ended = true })
 
 -- One line is read from p and the tables x to the answer r and the tables x′.
 pub record LineDone (form : Form) (p : Progress) (x x′ : Tables) (bytes : List ℕ) (r : LineRead) : Type 0 where
-  pub says : outcomeOf r (x′ .plan) ≡ stepOf form (draftOf p (x .plan)) (itemIn (x .plan) bytes)
+  pub says : outcomeOf r (x′ .plan) ≡ stepOf form (draftOf p (x .plan)) (recordAt p (x .plan) bytes)
   pub holds : HoldsAfter r (x′ .plan)
-  pub noted : NotedAfter p r (x .entries) (x′ .entries) (itemIn (x .plan) bytes .item)
+  pub noted : NotedAfter p r (x .entries) (x′ .entries) (recordAt p (x .plan) bytes .item)
 
 -- What a line that holds a move says, by what was read of it.
 abbrev pub moveItem : MoveRead → Option Item

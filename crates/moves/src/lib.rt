@@ -96,13 +96,6 @@ fn names_past(m: Move, limit: u32) -> bool
     }
 }
 
-// A number of the plan's table as a size.
-fn size_of(n: u32) -> usize
-    ensures { λ r. ⌜ r ≡ n ⌝ }
-{
-    n as usize
-}
-
 // A line that holds a move: it is judged, and put behind the moves of the last update.
 pub fn move_line(read: MoveRead, p: Progress, plan: &mut [u32; PLAN_PLACES]) -> LineRead
     requires { ⌜ (0 < updatesIn (now plan)) × ((p .lines < 65536) × Holds p (now plan)) ⌝ }
@@ -117,7 +110,7 @@ pub fn move_line(read: MoveRead, p: Progress, plan: &mut [u32; PLAN_PLACES]) -> 
         return LineRead::Refused(Fault::Malformed, number);
     };
     let last = layout::updates(plan) - 1;
-    let count = size_of(layout::count(plan, last));
+    let count = layout::wide(layout::count(plan, last));
     if 16 <= count {
         return LineRead::Refused(Fault::TooMany, number);
     }

@@ -24,7 +24,7 @@ use Rattle.line.specs.declared.Progress.{Progress}
 use Rattle.line.specs.declared.LineRead.{LineRead}
 use Rattle.line.specs.Steps.{Tables, draftOf, NotedAfter, LineStep, LineDone, Standing}
 use Rattle.format.proofs.Tables.{length-table}
-use Rattle.line.proofs.Tables.{lacks-jobs}
+use Rattle.line.proofs.Lacking.{lacks-jobs}
 
 -- The kind is the one that was met.
 pub at-kind : (k met : Kind) (s : ℕ) (fs : List (List ℕ)) (p : Progress) (x x′ : Tables) (r : LineRead) → k ≡ met

@@ -1,4 +1,4 @@
--- A sound plan stands in the arrays that were taken out of its table. Assumes nothing.
+-- A sound plan stands in the arrays that were taken out of its table. Assumes that it is sound.
 use Prim.Native.Nat.{ℕ, _+_, _*_, _≤_, _<_}
 use mathlib.Core.Path.{_≡_, sym, _∙_, ap, subst}
 use mathlib.Core.Bool.{false, _||_}

@@ -8,7 +8,8 @@ use Rattle.text.specs.Lines.{numbers}
 use Rattle.text.specs.Places.{readInto}
 use Rattle.layout.specs.Puts.{Put}
 
--- The answer is that of n numbers in the fields fs; what it speaks of was put from a place on.
+-- The n numbers of the fields fs are read into the n places from `from` on, and the other places stay. After a bad
+-- field those n places hold any numbers.
 pub record WordsRead (r : Numbers) (from n : ℕ) (fs : List (List ℕ)) (t u : List ℕ) : Type 0 where
   pub ns : List ℕ
   pub many : length ns ≡ n

@@ -26,13 +26,6 @@ use line::Progress;
 use text::Numbers;
 use text::read_numbers;
 
-// A number of a text as a size.
-fn size_of(n: u32) -> usize
-    ensures { λ r. ⌜ r ≡ n ⌝ }
-{
-    n as usize
-}
-
 // `plan P N B S C`.
 pub fn plan_line(line: &[u8], at: usize, p: Progress, plan: &mut [u32; PLAN_PLACES]) -> LineRead
     requires { ⌜ (at ≤ length (now line) + 1) × ((p .lines ≡ 0) × Holds p (now plan)) ⌝ }
@@ -48,11 +41,11 @@ pub fn plan_line(line: &[u8], at: usize, p: Progress, plan: &mut [u32; PLAN_PLAC
         return LineRead::Refused(Fault::Malformed, number);
     };
     let sizes = Sizes {
-        cards: size_of(n[0]),
-        jobs: size_of(n[1]),
-        blocks: size_of(n[2]),
-        words: size_of(n[3]),
-        copies: size_of(n[4]),
+        cards: layout::wide(n[0]),
+        jobs: layout::wide(n[1]),
+        blocks: layout::wide(n[2]),
+        words: layout::wide(n[3]),
+        copies: layout::wide(n[4]),
     };
     if !sizes::in_range(sizes) {
         return LineRead::Refused(Fault::BadSize, number);
@@ -112,7 +105,7 @@ pub fn job_line(line: &[u8], at: usize, p: Progress, plan: &mut [u32; PLAN_PLACE
     let card = n[0];
     let priority = n[1];
     let sizes = layout::sizes(plan);
-    if sizes.cards <= size_of(card) {
+    if sizes.cards <= layout::wide(card) {
         return LineRead::Refused(Fault::BadJob, number);
     }
     if 255 < priority {

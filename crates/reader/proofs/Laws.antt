@@ -23,12 +23,12 @@ use Rattle.format.specs.Items.{Item, itemOf, count, Record, recordFrom, recordO
 use Rattle.format.specs.Faults.{Draft, hasFault, laidOut, lacksJobs, lacksBlocks}
 use Rattle.format.specs.Reading.{Outcome, refused, sound, after, firstOf, byNumber, orElse, readLines, recordIn}
 use Rattle.format.specs.Reading.{afterLine, listed, entriesOf, refusal, accepted, given, reading, blank}
-use Rattle.layout.specs.PlanTable.{emptyPlan, sizesIn, planUpTo}
+use Rattle.layout.specs.PlanTable.{planPlaces, emptyPlan, sizesIn, planUpTo}
 use Rattle.layout.specs.EntryTable.{entryPlaces, listedIn}
 use Rattle.line.specs.declared.Progress.{Progress}
 use Rattle.line.specs.declared.LineRead.{LineRead}
-use Rattle.line.specs.Steps.{Tables, draftOf, stepOf, itemIn, Holds, LineDone}
-use Rattle.line.proofs.Tables.{lacks-jobs}
+use Rattle.line.specs.Steps.{Tables, draftOf, stepOf, recordAt, Holds, LineDone}
+use Rattle.line.proofs.Lacking.{lacks-jobs}
 use Rattle.reader.specs.declared.Cursor.{Cursor}
 use Rattle.reader.specs.declared.Advance.{Advance}
 use Rattle.reader.specs.Readings.{readingFrom}
@@ -78,7 +78,7 @@ module _ (form : Form) (text : List ℕ) (c : Cursor) (x x′ : Tables) (end : �
   lines-here = rw place (lines-ended text (c .at) inside (rw place at more))
 
   -- What is left comes to the line's outcome, and then to what is left behind the line.
-  rest-is : (o : Outcome) → o ≡ stepOf form (draftOf (c .progress) (x .plan)) (itemIn (x .plan) bytesOf)
+  rest-is : (o : Outcome) → o ≡ stepOf form (draftOf (c .progress) (x .plan)) (recordAt (c .progress) (x .plan) bytesOf)
       → rest form text c (x .plan) ≡ continue form (linesFrom text (end + 1)) o
   rest-is o e =
       rw (lines-here, e) (one-by-one form (draftOf (c .progress) (x .plan)) theLine (linesFrom text (end + 1)))
@@ -208,7 +208,7 @@ holds-start =
             blocks-written = omega arith;
             in-lines = omega arith;
           };
-      room = length-replicate {A = ℕ} 4424 0;
+      room = length-replicate {A = ℕ} planPlaces 0;
       filled = λ u l. absurd (omega arith);
       counted = refl;
     }

@@ -16,8 +16,9 @@ use Rattle.reader.specs.declared.Advance.{Advance}
 abbrev pub linesFrom : List ℕ → ℕ → List Line
 linesFrom text at = lines (drop at text)
 
--- A cursor in a text, with the table e of entries: it is within the text, has passed as many bytes as lines at least,
--- the lines before and behind it are all lines, and the entries noted and those behind it are all entries.
+-- A cursor in a text, with the table e of entries, which has room for all: it is within the text, has passed as many
+-- bytes as lines at least, the lines before and behind it are all lines, and the entries noted and those behind it are
+-- all entries.
 pub record Placed (text : List ℕ) (c : Cursor) (e : List ℕ) : Type 0 where
   pub inside : c .at ≤ length text
   pub passed : c .progress .lines ≤ c .at

@@ -29,7 +29,7 @@ pub enum Advance {
     Refused(Fault, usize),
 }
 
-// What reading a text answers: the verdict, and how many entries were noted.
+// What reading a text answers: the verdict and, where the text is accepted, how many entries were noted.
 pub struct Parsed {
     pub verdict: Verdict,
     pub entries: usize,
@@ -82,7 +82,7 @@ fn start() -> Cursor
     }
 }
 
-// Reads a text, which is measured first, into empty tables. Time is linear in the text.
+// Reads a text, which is measured first, into an empty plan's table and a table of entries. Time is linear in the text.
 pub fn read(
     text: &[u8],
     form: Form,

@@ -28,8 +28,8 @@ use text_run::Finished;
 // The most records that a schedule has.
 const MOST: usize = 4000;
 
-// What a plan's text and the count of the records come to before any record runs: the verdict on the text, the plan,
-// how many records run, and the run at its opening.
+// What a plan's text and the count of the records come to before any record runs: the verdict on the text, the arrays
+// of the plan, how many records run, and the run at its opening.
 pub struct Begun {
     pub verdict: Verdict,
     pub plan: PlanArrays,
@@ -61,7 +61,7 @@ fn walk_from(sizes: Sizes) -> Walk
     }
 }
 
-// The plan's text is read into empty tables, and where it is accepted the opening memory is put into the store.
+// The plan's text is read into the tables, and where it is accepted the opening memory is put into the store.
 fn begin_lent(
     text: &[u8],
     count: usize,

@@ -51,7 +51,7 @@ module _ {plan : Plan} {es : List Entry} {x : Lent} (st : Starts plan es x) wher
 
   -- The run before its first entry.
   pub begins : (progress : Progress) → Begun plan progress
-      → Reached plan es [] progress (x .store) (x .addr) (x .old) (x .new) (x .rows)
+      → Reached plan es [] progress (x .store) (x .addr) (x .old) (x .new) (x .commits)
   unfolding openingOf begun runOf
   begins progress b =
       record {
@@ -64,7 +64,7 @@ module _ {plan : Plan} {es : List Entry} {x : Lent} (st : Starts plan es x) wher
         few-done = omega (arith, b .opened .none-done);
         few-rows = omega (arith, b .opened .none-committed);
         all-rows = st .all-rows;
-        rows-are = ap (λ k. take k (x .rows)) (b .opened .none-committed);
+        rows-are = ap (λ k. take k (x .commits)) (b .opened .none-committed);
       }
     where
       opens : machineOf (progress .state .cells) (progress .works) (x .store) (x .addr) (x .old) (x .new)
@@ -73,7 +73,7 @@ module _ {plan : Plan} {es : List Entry} {x : Lent} (st : Starts plan es x) wher
 
 -- The run when all of its entries have run, or one was refused.
 pub ends : {plan : Plan} {es : List Entry} {progress : Progress} {x : Lent}
-    → Reached plan es es progress (x .store) (x .addr) (x .old) (x .new) (x .rows) → length es ≤ 4000
+    → Reached plan es es progress (x .store) (x .addr) (x .old) (x .new) (x .commits) → length es ≤ 4000
     → (line : ℕ → ℕ) (count : ℕ)
     → RunIs plan es line count
     (ranOf progress (endOf (refusalOf (progress .halt)) (line (progress .state .entries)) count)) x

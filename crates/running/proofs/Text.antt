@@ -96,11 +96,11 @@ module _ {plan : Plan} (e : List ℕ) (count : ℕ) {x₀ : Lent}
         (ends whole (st .few) (lineIn listed) all)
       where
         whole : Reached plan (entriesIn listed) (entriesIn listed) progress (x .store) (x .addr) (x .old) (x .new)
-            (x .rows)
+            (x .commits)
         whole =
             subst
             (λ ls.
-            Reached plan (entriesIn listed) (entriesIn ls) progress (x .store) (x .addr) (x .old) (x .new) (x .rows))
+            Reached plan (entriesIn listed) (entriesIn ls) progress (x .store) (x .addr) (x .old) (x .new) (x .commits))
             (take-all i listed (omega (arith, length-table count (listedAt e))))
             (g .reached)
 
@@ -138,7 +138,7 @@ module _ {plan : Plan} (e : List ℕ) (count : ℕ) {x₀ : Lent}
         -- It is about to run.
         pub enters : Enters plan (entriesIn listed) (entriesIn done) (entriesIn behind) (here .entry) (a .sizes)
             (a .updates) (a .cards) (a .priorities) (a .counts) (a .kinds) (a .targets) (a .sources) (a .amounts)
-            progress (x .store) (x .addr) (x .old) (x .new) (x .rows)
+            progress (x .store) (x .addr) (x .old) (x .new) (x .commits)
         enters =
             record {
               stored = stored;
@@ -150,7 +150,7 @@ module _ {plan : Plan} (e : List ℕ) (count : ℕ) {x₀ : Lent}
       -- What is reached with it.
       module _ {after : Progress} {x′ : Lent}
           (r : Reached plan (entriesIn listed) (entriesIn done ++ (here .entry ∷ [])) after (x′ .store) (x′ .addr)
-          (x′ .old) (x′ .new) (x′ .rows)) where
+          (x′ .old) (x′ .new) (x′ .commits)) where
         -- It was not refused.
         pub go-on : after .halt ≡ Halt.Going → Going plan listed (i + 1) (going (after .state) (after .works)) x′
         go-on goes =
@@ -159,7 +159,7 @@ module _ {plan : Plan} (e : List ℕ) (count : ℕ) {x₀ : Lent}
                   goes-on-so
                   (subst
                   (λ es.
-                  Reached plan (entriesIn listed) es after (x′ .store) (x′ .addr) (x′ .old) (x′ .new) (x′ .rows))
+                  Reached plan (entriesIn listed) es after (x′ .store) (x′ .addr) (x′ .old) (x′ .new) (x′ .commits))
                   (sym (ap entriesIn one-more ∙ entries-more done (here ∷ [])))
                   r)
                   goes;
@@ -213,9 +213,9 @@ module _ {plan : Plan} (e : List ℕ) (count : ℕ) {x₀ : Lent}
                 ∙ sym (ap entriesIn next-one ∙ entries-more done (here ∷ behind))
 
             whole : Reached plan (entriesIn listed) (entriesIn listed) after (x′ .store) (x′ .addr) (x′ .old) (x′ .new)
-                (x′ .rows)
+                (x′ .commits)
             whole =
                 subst
-                (λ es. Reached plan (entriesIn listed) es after (x′ .store) (x′ .addr) (x′ .old) (x′ .new) (x′ .rows))
+                (λ es. Reached plan (entriesIn listed) es after (x′ .store) (x′ .addr) (x′ .old) (x′ .new) (x′ .commits))
                 together
                 (stopped-at r (entriesIn behind) y stops)

@@ -71,17 +71,17 @@ pub record Lent : Type 0 where
   pub addr : List (List ℕ)
   pub old : List (List ℕ)
   pub new : List (List ℕ)
-  pub rows : List (List ℕ)
+  pub commits : List (List ℕ)
 
 -- These five.
 abbrev pub lent : List ℕ → List (List ℕ) → List (List ℕ) → List (List ℕ) → List (List ℕ) → Lent
-lent s a o n r = record { store = s; addr = a; old = o; new = n; rows = r }
+lent s a o n c = record { store = s; addr = a; old = o; new = n; commits = c }
 
 -- A run of a text's entries goes on: the first i of them are done, and none was refused.
 pub record Going (plan : Plan) (listed : List Listed) (i : ℕ) (progress : Progress) (x : Lent) : Type 0 where
   pub reached :
       Reached plan (entriesIn listed) (entriesIn (take i listed)) progress (x .store) (x .addr) (x .old) (x .new)
-      (x .rows)
+      (x .commits)
   pub goes-on : progress .halt ≡ Halt.Going
 
 -- A run has ended: this is the state that all entries give, or that the refused one left, these are the commits, and
@@ -90,7 +90,7 @@ pub record RunIs (plan : Plan) (es : List Entry) (line : ℕ → ℕ) (count : �
   pub machine-is :
       machineOf (ran .cells) (ran .works) (x .store) (x .addr) (x .old) (x .new) ≡ runOf plan es .machine
   pub few-rows : ran .commits ≤ 4000
-  pub rows-are : take (ran .commits) (x .rows) ≡ rowsIn es (commitsIn (runOf plan es .history))
+  pub rows-are : take (ran .commits) (x .commits) ≡ rowsIn es (commitsIn (runOf plan es .history))
   pub end-is : ran .end ≡ endOf (runOf plan es .refusal) (line (length (runOf plan es .history))) count
 
 -- The state before the first entry.
@@ -110,8 +110,8 @@ pub record Begun (plan : Plan) (progress : Progress) : Type 0 where
 abbrev pub emptyRows : List (List ℕ)
 emptyRows = replicate 16 (replicate 16 0)
 
--- A run is about to start: the plan is sound, the entries are few, the store has the opening memory, and the rows are
--- empty.
+-- A run is about to start: the plan is sound, the entries are few, the store has the opening memory, the rows are empty,
+-- and there is room for 4,000 commits.
 pub record Starts (plan : Plan) (es : List Entry) (x : Lent) : Type 0 where
   pub sound : Sound plan
   pub few : length es ≤ 4000
@@ -119,4 +119,4 @@ pub record Starts (plan : Plan) (es : List Entry) (x : Lent) : Type 0 where
   pub addr-is : x .addr ≡ emptyRows
   pub old-is : x .old ≡ emptyRows
   pub new-is : x .new ≡ emptyRows
-  pub all-rows : length (x .rows) ≡ 4000
+  pub all-rows : length (x .commits) ≡ 4000

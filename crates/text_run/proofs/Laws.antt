@@ -118,7 +118,7 @@ module _ (text plan entries : List ℕ) (count lines : ℕ) (read : Reads text p
 
   -- The run starts, with the opening memory put in.
   pub the-start : (x : Lent) → x .store ≡ openingStore (planIn plan) → x .addr ≡ emptyRows → x .old ≡ emptyRows
-      → x .new ≡ emptyRows → length (x .rows) ≡ 4000 → Starts (planIn plan) (entriesIn (listedIn count entries)) x
+      → x .new ≡ emptyRows → length (x .commits) ≡ 4000 → Starts (planIn plan) (entriesIn (listedIn count entries)) x
   the-start x s a o n r =
       record {
         sound = sound-plan;

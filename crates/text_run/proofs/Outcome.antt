@@ -97,7 +97,7 @@ module _ {plan : Plan} {es : List Entry} {line : ℕ → ℕ} {count : ℕ} {r :
 
   -- What is written is the report.
   pub the-outcome :
-      reported end (reportBytes (plan .sizes) cells (r .works) store (x .rows) (r .commits) (endNumber end)
+      reported end (reportBytes (plan .sizes) cells (r .works) store (x .commits) (r .commits) (endNumber end)
       (endLine end))
       ≡ outcomeOf plan es line count
   unfolding report

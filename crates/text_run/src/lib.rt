@@ -199,7 +199,7 @@ fn run_plan(
     )
 }
 
-// A text is read into empty tables, and run. The whole text is checked for 1 to 10 before any entry runs.
+// A text is read into the tables, and run. The whole text is checked for 1 to 10 before any entry runs.
 fn run_read(
     text: &[u8],
     plan: &mut [u32; PLAN_PLACES],

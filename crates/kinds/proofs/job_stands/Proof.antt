@@ -3,7 +3,7 @@ use mathlib.Core.Path.{sym, _∙_, ap}
 use denote.Ref.{now}
 use lib.Dec.{ltb}
 use Rattle.format.specs.declared.Sizes.{Sizes}
-use Rattle.line.proofs.Tables.{lacks-jobs}
+use Rattle.line.proofs.Lacking.{lacks-jobs}
 use borrow.Author.Needs.{needs}
 use Rattle.kinds.proofs.job_stands.Statement.{statement}
 use Rattle.kinds.proofs.job_stands.Tie as tie

@@ -5,7 +5,7 @@ use Prim.Native.Nat.{_≤_, _<_}
 use mathlib.Core.Path.{subst}
 use Rattle.format.specs.declared.Sizes.{Sizes}
 use borrow.Author.Tests.{lt-ltb, le-ltb}
-use Rattle.line.proofs.Tables.{lacks-jobs}
+use Rattle.line.proofs.Lacking.{lacks-jobs}
 use borrow.Author.Needs.{needs}
 use Rattle.kinds.proofs.laid_out.Statement.{statement}
 use Rattle.kinds.proofs.laid_out.Tie as tie

@@ -3,58 +3,43 @@ use Rattle.layout.proofs.Puts.{put-one, put-more}
 use borrow.Author.Needs.{needs}
 use Rattle.layout.proofs.note.Statement.{statement}
 use Rattle.layout.proofs.note.Tie as tie
-use Rattle.layout.proofs.note.Reads as reads
-use Rattle.layout.proofs.note.Lts as lts
 
--- src/lib.rt:240:14
 mul-at : tie.Need-mul-at
 mul-at c = search needs
 
--- src/lib.rt:241:5
 mul-entries : tie.Need-mul-entries
 mul-entries c = search needs
 
--- src/lib.rt:241:5
 element-write-entries : tie.Need-element-write-entries
 element-write-entries c = search needs
 
--- src/lib.rt:242:13
 add-entries : tie.Need-add-entries
 add-entries c = search needs
 
--- src/lib.rt:242:5
 mul-entries-2 : tie.Need-mul-entries-2
 mul-entries-2 c = search needs
 
--- src/lib.rt:242:5
 element-write-entries-2 : tie.Need-element-write-entries-2
 element-write-entries-2 c = search needs
 
--- src/lib.rt:243:13
 add-entries-2 : tie.Need-add-entries-2
 add-entries-2 c = search needs
 
--- src/lib.rt:243:5
 mul-entries-3 : tie.Need-mul-entries-3
 mul-entries-3 c = search needs
 
--- src/lib.rt:243:5
 element-write-entries-3 : tie.Need-element-write-entries-3
 element-write-entries-3 c = search needs
 
--- src/lib.rt:244:13
 add-entries-3 : tie.Need-add-entries-3
 add-entries-3 c = search needs
 
--- src/lib.rt:244:5
 mul-entries-4 : tie.Need-mul-entries-4
 mul-entries-4 c = search needs
 
--- src/lib.rt:244:5
 element-write-entries-4 : tie.Need-element-write-entries-4
 element-write-entries-4 c = search needs
 
--- src/lib.rt:235:1
 returns : tie.Need-returns
 returns c = put-more (put-more (put-more (put-one _ _ _) (put-one _ _ _)) (put-one _ _ _)) (put-one _ _ _)
 

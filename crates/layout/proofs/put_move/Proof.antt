@@ -4,67 +4,46 @@ use Rattle.layout.proofs.Puts.{put-more, put-alike}
 use borrow.Author.Needs.{needs}
 use Rattle.layout.proofs.put_move.Statement.{statement}
 use Rattle.layout.proofs.put_move.Tie as tie
-use Rattle.layout.proofs.put_move.Reads as reads
-use Rattle.layout.proofs.put_move.Lts as lts
-use Rattle.layout.proofs.amount_of.Reads as amount-of-reads
-use Rattle.layout.proofs.code_of.Reads as code-of-reads
-use Rattle.layout.proofs.put.Reads as put-reads
-use Rattle.layout.proofs.source_of.Reads as source-of-reads
-use Rattle.layout.proofs.target_of.Reads as target-of-reads
 
--- src/lib.rt:227:22
 mul-at : tie.Need-mul-at
 mul-at c = search needs
 
--- src/lib.rt:227:14
 add-at : tie.Need-add-at
 add-at c = search needs
 
--- src/lib.rt:228:19
 code-of-requires : tie.Need-code-of-requires
 code-of-requires c κs = search needs
 
--- src/lib.rt:228:5
 put-requires : tie.Need-put-requires
 put-requires c κs = search needs
 
--- src/lib.rt:229:15
 add-put : tie.Need-add-put
 add-put c = search needs
 
--- src/lib.rt:229:23
 target-of-requires : tie.Need-target-of-requires
 target-of-requires c κs = search needs
 
--- src/lib.rt:229:5
 put-requires-2 : tie.Need-put-requires-2
 put-requires-2 c κs = search needs
 
--- src/lib.rt:230:15
 add-put-2 : tie.Need-add-put-2
 add-put-2 c = search needs
 
--- src/lib.rt:230:23
 source-of-requires : tie.Need-source-of-requires
 source-of-requires c κs = search needs
 
--- src/lib.rt:230:5
 put-requires-3 : tie.Need-put-requires-3
 put-requires-3 c κs = search needs
 
--- src/lib.rt:231:15
 add-put-3 : tie.Need-add-put-3
 add-put-3 c = search needs
 
--- src/lib.rt:231:23
 amount-of-requires : tie.Need-amount-of-requires
 amount-of-requires c κs = search needs
 
--- src/lib.rt:231:5
 put-requires-4 : tie.Need-put-requires-4
 put-requires-4 c κs = search needs
 
--- src/lib.rt:223:1
 returns : tie.Need-returns
 returns c =
     let third = c .before .before .before in

@@ -3,31 +3,22 @@ use Rattle.layout.proofs.Puts.{put-more}
 use borrow.Author.Needs.{needs}
 use Rattle.layout.proofs.put_sizes.Statement.{statement}
 use Rattle.layout.proofs.put_sizes.Tie as tie
-use Rattle.layout.proofs.put_sizes.Reads as reads
-use Rattle.layout.proofs.put_sizes.Lts as lts
-use Rattle.layout.proofs.put.Reads as put-reads
 
--- src/lib.rt:171:5
 put-requires : tie.Need-put-requires
 put-requires c κs = search needs
 
--- src/lib.rt:172:5
 put-requires-2 : tie.Need-put-requires-2
 put-requires-2 c κs = search needs
 
--- src/lib.rt:173:5
 put-requires-3 : tie.Need-put-requires-3
 put-requires-3 c κs = search needs
 
--- src/lib.rt:174:5
 put-requires-4 : tie.Need-put-requires-4
 put-requires-4 c κs = search needs
 
--- src/lib.rt:175:5
 put-requires-5 : tie.Need-put-requires-5
 put-requires-5 c κs = search needs
 
--- src/lib.rt:168:1
 returns : tie.Need-returns
 returns c =
     let words = c .before .before in

@@ -23,27 +23,27 @@ use Rattle.moves.proofs.move_line.Statement.{statement}
 use Rattle.moves.proofs.move_line.Tie as tie
 
 -- The function's start, from where the count of moves has been read.
-abbrev start : tie.After-size-of → tie.Start
+abbrev start : tie.After-wide → tie.Start
 start c = c .before .before .before .before .before .before .before .before .before
 
 -- The plan's table at the start.
-abbrev plan : tie.After-size-of → List ℕ
+abbrev plan : tie.After-wide → List ℕ
 plan c = now (start c .args .plan)
 
 -- What has been read holds.
-holds : (c : tie.After-size-of) → Holds (start c .args .p) (plan c)
+holds : (c : tie.After-wide) → Holds (start c .args .p) (plan c)
 holds c = start c .pre .1 .1
 
 -- The move that was read.
-abbrev theMove : tie.After-size-of → Move
+abbrev theMove : tie.After-wide → Move
 theMove c = c .before .before .before .before .before .before .read .given .0 .0
 
 -- The place of the last update.
-abbrev last : tie.After-size-of → ℕ
+abbrev last : tie.After-wide → ℕ
 last c = c .before .before .before .updates .result - 1
 
 -- What the line says.
-says : (c : tie.After-size-of) → moveItem (start c .args .read) ≡ some (move (theMove c))
+says : (c : tie.After-wide) → moveItem (start c .args .read) ≡ some (move (theMove c))
 says c = ap moveItem (c .before .before .before .before .before .before .read .given .1)
 
 -- The last update has its place, which is below 32.
@@ -52,22 +52,22 @@ low c =
     let s = c .before .before .before .before .before .before in
     omega (arith, c .updates .ensures, s .pre .0, s .pre .1 .1 .ranged .updates-read)
 
-low-place : (c : tie.After-size-of) → last c < 32
+low-place : (c : tie.After-wide) → last c < 32
 low-place c = low (c .before .before .before)
 
-placed : (c : tie.After-size-of) → updatesIn (plan c) ≡ last c + 1
+placed : (c : tie.After-wide) → updatesIn (plan c) ≡ last c + 1
 placed c = omega (arith, c .before .before .before .updates .ensures, start c .pre .0)
 
 -- How many moves it has.
-count : (c : tie.After-size-of) → c .size-of .result ≡ countAt (plan c) (last c)
-count c = c .size-of .ensures ∙ c .before .count .ensures
+count : (c : tie.After-wide) → c .wide .result ≡ countAt (plan c) (last c)
+count c = c .wide .ensures ∙ c .before .count .ensures
 
 -- Where the count of moves has been read, from where the words that a move names have been judged.
-abbrev moved : tie.After-names-past → tie.After-size-of
+abbrev moved : tie.After-names-past → tie.After-wide
 moved c = c .before .before .before .before .before
 
 -- It has fewer than 16 moves.
-few-read : (c : tie.After-names-past) → moved c .size-of .result < 16
+few-read : (c : tie.After-names-past) → moved c .wide .result < 16
 few-read c = c .before .before .before .before .if1 .left
 
 few : (c : tie.After-names-past) → countAt (plan (moved c)) (last (moved c)) < 16
@@ -103,7 +103,7 @@ abbrev names : tie.Else3 → tie.After-names-past
 names c = judged (c .before .before) .before
 
 -- How many blocks the last update writes with a move to word d behind its first n moves, in blocks of a size.
-abbrev withWord : tie.After-size-of → ℕ → ℕ → ℕ → ℕ
+abbrev withWord : tie.After-wide → ℕ → ℕ → ℕ → ℕ
 withWord c size d n =
     cond (writesTo size (blockOf size d) (table n (λ i. targetAt (plan c) (16 * last c + i))))
     (start c .args .p .written)
@@ -145,8 +145,8 @@ sub-last c = search needs
 count-requires : tie.Need-count-requires
 count-requires c κs = low (c .before)
 
-size-of-requires : tie.Need-size-of-requires
-size-of-requires c κs = search needs
+wide-requires : tie.Need-wide-requires
+wide-requires c κs = search needs
 
 returns-2 : tie.Need-returns-2
 returns-2 c =
@@ -235,7 +235,7 @@ returns-5 c =
     let m = moved n in
     let h = holds m in
     let enough = subst (λ (z : Sizes). b .blocks-with .result ≤ z .copies) (sized n) (i .if3 .left) in
-    move-read k _ (plan m) _ _ e _ (theMove m) (last m) (m .size-of .result) (b .blocks-with .result) (says m)
+    move-read k _ (plan m) _ _ e _ (theMove m) (last m) (m .wide .result) (b .blocks-with .result) (says m)
     (placed m)
     (sym (count m))
     (few-read n)
@@ -259,7 +259,7 @@ move-line-spec =
     updates-requires
     sub-last
     count-requires
-    size-of-requires
+    wide-requires
     returns-2
     sizes-requires
     memory-of-requires

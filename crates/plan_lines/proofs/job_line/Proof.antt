@@ -21,11 +21,11 @@ use Rattle.plan_lines.proofs.job_line.Statement.{statement}
 use Rattle.plan_lines.proofs.job_line.Tie as tie
 
 -- The function's start, from where the job's card is a size.
-abbrev start : tie.After-size-of → tie.Start
+abbrev start : tie.After-wide → tie.Start
 start c = c .before .before .before .before .before .before .before .before .before .before
 
 -- The job that was read.
-abbrev theJob : tie.After-size-of → Job
+abbrev theJob : tie.After-wide → Job
 theJob c =
     record {
       card = getD (c .before .before .before .before .before .before .read-numbers .last .1 .1 .0) 0 0;
@@ -33,21 +33,21 @@ theJob c =
     }
 
 -- What the line says, where its numbers could be read.
-says-job : (c : tie.After-size-of)
+says-job : (c : tie.After-wide)
     → itemOf Kind.Job (numbers 2 (fieldsAt (now (start c .args .line)) (start c .args .at))) ≡ some (job (theJob c))
 says-job c =
     let t = c .before .before .before in
     rw (← t .before .before .before .read-numbers .ensures .0, t .enum-told .given .1)
 
 -- The test of the card.
-card-test : (c : tie.After-size-of)
+card-test : (c : tie.After-wide)
     → leb (sizesIn (now (start c .args .plan)) .cards) (theJob c .card)
-    ≡ leb (c .before .sizes .result .cards) (c .size-of .result)
+    ≡ leb (c .before .sizes .result .cards) (c .wide .result)
 card-test c =
-    sym (ap₂ (λ (z : Sizes) n. leb (z .cards) n) (c .before .sizes .ensures) (c .size-of .ensures))
+    sym (ap₂ (λ (z : Sizes) n. leb (z .cards) n) (c .before .sizes .ensures) (c .wide .ensures))
 
 -- There is a place for the job.
-few : (c : tie.After-size-of) → start c .args .p .jobs < 16
+few : (c : tie.After-wide) → start c .args .p .jobs < 16
 few c = let h = start c .pre .1 in omega (arith, h .0, h .1 .1 .ranged .jobs)
 
 add-number : tie.Need-add-number
@@ -80,8 +80,8 @@ array-read-priority c = search needs
 sizes-requires : tie.Need-sizes-requires
 sizes-requires c κs = search needs
 
-size-of-requires : tie.Need-size-of-requires
-size-of-requires c κs = search needs
+wide-requires : tie.Need-wide-requires
+wide-requires c κs = search needs
 
 returns-2 : tie.Need-returns-2
 returns-2 c =
@@ -157,7 +157,7 @@ job-line-spec =
     array-read-card
     array-read-priority
     sizes-requires
-    size-of-requires
+    wide-requires
     returns-2
     returns-3
     job-taken-requires

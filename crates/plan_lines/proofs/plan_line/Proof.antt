@@ -16,22 +16,22 @@ use Rattle.plan_lines.proofs.plan_line.Statement.{statement}
 use Rattle.plan_lines.proofs.plan_line.Tie as tie
 
 -- The sizes that were read.
-abbrev theSizes : tie.After-size-of5 → Sizes
+abbrev theSizes : tie.After-wide5 → Sizes
 theSizes c =
     record {
-      cards = c .before .before .before .before .size-of .result;
-      jobs = c .before .before .before .size-of2 .result;
-      blocks = c .before .before .size-of3 .result;
-      words = c .before .size-of4 .result;
-      copies = c .size-of5 .result;
+      cards = c .before .before .before .before .wide .result;
+      jobs = c .before .before .before .wide2 .result;
+      blocks = c .before .before .wide3 .result;
+      words = c .before .wide4 .result;
+      copies = c .wide5 .result;
     }
 
 -- The function's start, from where its last size is made.
-abbrev start : tie.After-size-of5 → tie.Start
+abbrev start : tie.After-wide5 → tie.Start
 start c = c .before .before .before .before .before .before .before .before .before .before .before .before
 
 -- What the line says, where its numbers could be read.
-says-plan : (c : tie.After-size-of5)
+says-plan : (c : tie.After-wide5)
     → itemOf Kind.Plan (numbers 5 (fieldsAt (now (start c .args .line)) (start c .args .at))) ≡ some (plan (theSizes c))
 says-plan c =
     good-item Kind.Plan _ _ _
@@ -41,11 +41,11 @@ says-plan c =
     some
     (plan
     (record {
-      cards = sym (c .before .before .before .before .size-of .ensures) i;
-      jobs = sym (c .before .before .before .size-of2 .ensures) i;
-      blocks = sym (c .before .before .size-of3 .ensures) i;
-      words = sym (c .before .size-of4 .ensures) i;
-      copies = sym (c .size-of5 .ensures) i;
+      cards = sym (c .before .before .before .before .wide .ensures) i;
+      jobs = sym (c .before .before .before .wide2 .ensures) i;
+      blocks = sym (c .before .before .wide3 .ensures) i;
+      words = sym (c .before .wide4 .ensures) i;
+      copies = sym (c .wide5 .ensures) i;
     }))
 
 add-number : tie.Need-add-number
@@ -69,35 +69,35 @@ returns c =
     malformed Kind.Plan _ _ _ _
     (rw (← c .before .before .before .read-numbers .ensures .0, c .enum-told2 .given .1))
 
-array-read-size-of : tie.Need-array-read-size-of
-array-read-size-of c = search needs
+array-read-wide : tie.Need-array-read-wide
+array-read-wide c = search needs
 
-size-of-requires : tie.Need-size-of-requires
-size-of-requires c κs = search needs
+wide-requires : tie.Need-wide-requires
+wide-requires c κs = search needs
 
-array-read-size-of-2 : tie.Need-array-read-size-of-2
-array-read-size-of-2 c = search needs
+array-read-wide-2 : tie.Need-array-read-wide-2
+array-read-wide-2 c = search needs
 
-size-of-requires-2 : tie.Need-size-of-requires-2
-size-of-requires-2 c κs = search needs
+wide-requires-2 : tie.Need-wide-requires-2
+wide-requires-2 c κs = search needs
 
-array-read-size-of-3 : tie.Need-array-read-size-of-3
-array-read-size-of-3 c = search needs
+array-read-wide-3 : tie.Need-array-read-wide-3
+array-read-wide-3 c = search needs
 
-size-of-requires-3 : tie.Need-size-of-requires-3
-size-of-requires-3 c κs = search needs
+wide-requires-3 : tie.Need-wide-requires-3
+wide-requires-3 c κs = search needs
 
-array-read-size-of-4 : tie.Need-array-read-size-of-4
-array-read-size-of-4 c = search needs
+array-read-wide-4 : tie.Need-array-read-wide-4
+array-read-wide-4 c = search needs
 
-size-of-requires-4 : tie.Need-size-of-requires-4
-size-of-requires-4 c κs = search needs
+wide-requires-4 : tie.Need-wide-requires-4
+wide-requires-4 c κs = search needs
 
-array-read-size-of-5 : tie.Need-array-read-size-of-5
-array-read-size-of-5 c = search needs
+array-read-wide-5 : tie.Need-array-read-wide-5
+array-read-wide-5 c = search needs
 
-size-of-requires-5 : tie.Need-size-of-requires-5
-size-of-requires-5 c κs = search needs
+wide-requires-5 : tie.Need-wide-requires-5
+wide-requires-5 c κs = search needs
 
 in-range-requires : tie.Need-in-range-requires
 in-range-requires c κs = search needs
@@ -138,11 +138,11 @@ returns-3 c =
     (s .pre .1 .1)
     (put-alike
     (λ k.
-    sym (r .before .before .before .before .size-of .ensures) k
-    ∷ sym (r .before .before .before .size-of2 .ensures) k
-    ∷ sym (r .before .before .size-of3 .ensures) k
-    ∷ sym (r .before .size-of4 .ensures) k
-    ∷ sym (r .size-of5 .ensures) k
+    sym (r .before .before .before .before .wide .ensures) k
+    ∷ sym (r .before .before .before .wide2 .ensures) k
+    ∷ sym (r .before .before .wide3 .ensures) k
+    ∷ sym (r .before .wide4 .ensures) k
+    ∷ sym (r .wide5 .ensures) k
     ∷ [])
     (c .put-sizes .ensures))
 
@@ -156,16 +156,16 @@ plan-line-spec =
     enum-told
     enum-told-2
     returns
-    array-read-size-of
-    size-of-requires
-    array-read-size-of-2
-    size-of-requires-2
-    array-read-size-of-3
-    size-of-requires-3
-    array-read-size-of-4
-    size-of-requires-4
-    array-read-size-of-5
-    size-of-requires-5
+    array-read-wide
+    wide-requires
+    array-read-wide-2
+    wide-requires-2
+    array-read-wide-3
+    wide-requires-3
+    array-read-wide-4
+    wide-requires-4
+    array-read-wide-5
+    wide-requires-5
     in-range-requires
     returns-2
     array-read-put-sizes

@@ -3,13 +3,14 @@ use Prim.Native.Nat.{ℕ}
 use mathlib.Core.Path.{refl}
 use lib.ListN.{length-replicate}
 use Rattle.layout.specs.PlanTable.{emptyPlan}
+use Rattle.layout.specs.EntryTable.{entryPlaces}
 use borrow.Author.Needs.{needs}
 use Rattle.record_run.proofs.begin.Statement.{statement}
 use Rattle.record_run.proofs.begin.Tie as tie
 
 begin-lent-requires : tie.Need-begin-lent-requires
 unfolding emptyPlan
-begin-lent-requires c κs = (refl, (length-replicate {A = ℕ} 16000 0, c .before .before .before .before .before .pre))
+begin-lent-requires c κs = (refl, (length-replicate {A = ℕ} entryPlaces 0, c .before .before .before .before .before .pre))
 
 same-length : tie.Need-same-length
 same-length c = search needs

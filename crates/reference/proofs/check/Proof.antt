@@ -4,13 +4,14 @@ use mathlib.Core.Path.{refl, _∙_, ap}
 use lib.ListN.{length-replicate}
 use Rattle.format.specs.Reading.{verdictOf}
 use Rattle.layout.specs.PlanTable.{emptyPlan}
+use Rattle.layout.specs.EntryTable.{entryPlaces}
 use Rattle.reference.proofs.Verdicts.{verdict-kept}
 use Rattle.reference.proofs.check.Statement.{statement}
 use Rattle.reference.proofs.check.Tie as tie
 
 read-requires : tie.Need-read-requires
 unfolding emptyPlan
-read-requires c κs = (refl, length-replicate {A = ℕ} 16000 0)
+read-requires c κs = (refl, length-replicate {A = ℕ} entryPlaces 0)
 
 returns : tie.Need-returns
 returns c = verdict-kept _ _ _ _ ∙ ap verdictOf (c .read .ensures)

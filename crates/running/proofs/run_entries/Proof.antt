@@ -113,7 +113,7 @@ reached : (c : tie.After-turn Inv-loop μ-loop) →
     let z = left c in
     Reached (thePlan l) (entriesIn (listed l))
     (entriesIn (take (l .loop .i) (listed l)) ++ (listedAt (now (begun l .args .entries)) (l .loop .i) .entry ∷ []))
-    (progressBy (l .loop .works) (c .turn .result)) (z .store) (z .addr) (z .old) (z .new) (z .rows)
+    (progressBy (l .loop .works) (c .turn .result)) (z .store) (z .addr) (z .old) (z .new) (z .commits)
 reached c =
     let e = entry-of c in
     let l = e .before .before in
@@ -121,7 +121,7 @@ reached c =
     subst
     (λ (x : Entry).
     Reached (thePlan l) (entriesIn (listed l)) (entriesIn (take (l .loop .i) (listed l)) ++ (x ∷ []))
-    (progressBy (l .loop .works) (c .turn .result)) (z .store) (z .addr) (z .old) (z .new) (z .rows))
+    (progressBy (l .loop .works) (c .turn .result)) (z .store) (z .addr) (z .old) (z .new) (z .commits))
     (is-next e)
     (c .turn .ensures .1 (thePlan l) _ (entriesIn (take (l .loop .i) (listed l))) _ (running e))
 

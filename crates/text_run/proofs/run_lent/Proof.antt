@@ -125,7 +125,7 @@ returns c =
     (ap
     (λ (y : Sizes).
     reported (r .end)
-    (reportBytes y (r .cells) (r .works) (x .store) (x .rows) (r .commits) (endNumber (r .end)) (endLine (r .end))))
+    (reportBytes y (r .cells) (r .works) (x .store) (x .commits) (r .commits) (endNumber (r .end)) (endLine (r .end))))
     (z .sizes .ensures)
     ∙ the-outcome (sound s) (ran e)
     ∙ the-run text (now (s .args .plan)) (now (s .args .entries)) (s .args .count) (s .args .lines) reading)

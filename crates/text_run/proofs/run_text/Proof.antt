@@ -3,13 +3,14 @@ use Prim.Native.Nat.{ℕ}
 use mathlib.Core.Path.{refl}
 use lib.ListN.{length-replicate}
 use Rattle.layout.specs.PlanTable.{emptyPlan}
+use Rattle.layout.specs.EntryTable.{entryPlaces}
 use borrow.Author.Needs.{needs}
 use Rattle.text_run.proofs.run_text.Statement.{statement}
 use Rattle.text_run.proofs.run_text.Tie as tie
 
 run-read-requires : tie.Need-run-read-requires
 unfolding emptyPlan
-run-read-requires c κs = (refl, length-replicate {A = ℕ} 16000 0)
+run-read-requires c κs = (refl, length-replicate {A = ℕ} entryPlaces 0)
 
 same-length : tie.Need-same-length
 same-length c = search needs
