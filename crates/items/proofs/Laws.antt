@@ -29,7 +29,7 @@ use Rattle.model.specs.Ranges.{CellRanges, WorkRanges, AtPlace, Inside, RoomFor
 use Rattle.model.proofs.Tests.{or-l, or-r}
 use Rattle.records.specs.Given.{Given}
 use Rattle.records.proofs.Statuses.{there}
-use Rattle.stages.specs.AtMove.{accessAt, blockAt, AtMove, Ready, RoomAt}
+use Rattle.move_accesses.specs.AtMove.{accessAt, blockAt, AtMove, Ready, RoomAt}
 use Rattle.items.specs.Standing.{MovesAre, Stands, JobIs, RowsAre}
 
 -- A list of lists has an element of one of its lists at no place past its end.

@@ -36,7 +36,7 @@ fn stage(
         → r ≡ itemAt plan (sharedIn plan m) p (Place.Move st) w) ⌝ }
 {
     let at = 16 * w.tr as usize + w.index as usize;
-    let m = stages::move_at(kinds, targets, sources, amounts, at);
+    let m = move_accesses::move_at(kinds, targets, sources, amounts, at);
     stages::stage(st, sizes, cells, m, counts[w.tr as usize], store, w)
 }
 

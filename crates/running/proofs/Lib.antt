@@ -2,4 +2,3 @@
 pub mod Onward
 pub mod Steps
 pub mod Starting
-pub mod Text

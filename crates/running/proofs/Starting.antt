@@ -8,6 +8,8 @@ use lib.ListN.{length, take}
 use Rattle.format.specs.declared.Sizes.{Sizes}
 use Rattle.format.specs.declared.Entry.{Entry}
 use Rattle.format.specs.Plan.{Plan, table}
+use Rattle.format.specs.Sound.{Sound}
+use Rattle.layout.specs.PlanTable.{planIn}
 use Rattle.model.specs.declared.Working.{Working}
 use Rattle.model.specs.Working.{opening}
 use Rattle.model.specs.Machine.{openingOf}
@@ -15,9 +17,12 @@ use Rattle.model.specs.History.{begun, runOf}
 use Rattle.model.proofs.Reached.{always}
 use Rattle.runs.specs.Runs.{endOf}
 use Rattle.judging.specs.Turns.{Turns}
+use Rattle.plan_arrays.specs.declared.PlanArrays.{PlanArrays}
+use Rattle.plan_arrays.specs.Arrays.{Unpacked}
+use Rattle.plan_arrays.proofs.Plans.{plan-is, moves-are}
 use Rattle.stores.specs.Carried.{machineOf}
 use Rattle.running.specs.declared.Progress.{Progress}
-use Rattle.running.specs.Schedules.{refusalOf, Lent, Begun, Reached, Starts, RunIs}
+use Rattle.running.specs.Schedules.{refusalOf, Lent, Stored, Begun, Reached, Starts, RunIs}
 use Rattle.running.specs.Rans.{ranOf}
 
 -- The records at the opening, by the number of copy blocks.
@@ -27,6 +32,12 @@ pub opening-works : (plan : Plan) (sizes : Sizes) → plan .sizes ≡ sizes → 
 unfolding openingOf
 opening-works plan sizes same works e =
     e ∙ ap (λ (s : Sizes). table 16 (λ p. opening (table 8 (λ i. p * s .copies + i)))) (sym same)
+
+-- A sound plan stands in the arrays that were taken out of its table.
+pub stored-plan : {t : List ℕ} {a : PlanArrays} → Unpacked t a → Sound (planIn t)
+    → Stored (planIn t) (a .sizes) (a .updates) (a .cards) (a .priorities) (a .counts) (a .kinds) (a .targets)
+    (a .sources) (a .amounts)
+stored-plan u ok = record { sound = ok; plan-is = plan-is u ok; moves-are = moves-are u ok }
 
 module _ {plan : Plan} {es : List Entry} {x : Lent} (st : Starts plan es x) where
   -- The store is whole.

@@ -77,13 +77,6 @@ pub record Lent : Type 0 where
 abbrev pub lent : List ℕ → List (List ℕ) → List (List ℕ) → List (List ℕ) → List (List ℕ) → Lent
 lent s a o n c = record { store = s; addr = a; old = o; new = n; commits = c }
 
--- A run of a text's entries goes on: the first i of them are done, and none was refused.
-pub record Going (plan : Plan) (listed : List Listed) (i : ℕ) (progress : Progress) (x : Lent) : Type 0 where
-  pub reached :
-      Reached plan (entriesIn listed) (entriesIn (take i listed)) progress (x .store) (x .addr) (x .old) (x .new)
-      (x .commits)
-  pub goes-on : progress .halt ≡ Halt.Going
-
 -- A run has ended: this is the state that all entries give, or that the refused one left, these are the commits, and
 -- this is the end. Entry i, from 0, stands in line `line i`; acceptance gives `count`.
 pub record RunIs (plan : Plan) (es : List Entry) (line : ℕ → ℕ) (count : ℕ) (ran : Ran) (x : Lent) : Type 0 where

@@ -27,7 +27,7 @@ use Rattle.runs.specs.Runs.{Outcome, reported, left, endOf, outcomeOf, lineIn, 
 use Rattle.report.specs.declared.Written.{Written}
 use Rattle.report.specs.Writing.{IsWritten}
 use Rattle.running.specs.Schedules.{entriesIn, emptyRows, Lent, Starts}
-use Rattle.running.proofs.Text.{entries-many}
+use Rattle.text_entries.proofs.Text.{entries-many}
 use Rattle.text_run.specs.declared.Finished.{Finished}
 use Rattle.text_run.specs.Finishing.{Reads, WrittenOut, emptyStore}
 

@@ -162,7 +162,17 @@ fn run_lent(
         → WrittenOut (runText text) (now (buffer .entry)) r (now (buffer .exit))) ⌝ }
 {
     open_store(plan, store);
-    let ran = running::run_entries(plan, entries, count, lines, store, addr, old, new, commits);
+    let ran = text_entries::run_entries(
+        plan,
+        entries,
+        count,
+        lines,
+        store,
+        addr,
+        old,
+        new,
+        commits,
+    );
     finish(buffer, layout::sizes(plan), ran, store, commits)
 }
 

@@ -14,7 +14,7 @@ use Rattle.layout.specs.PlanTable.{planIn}
 use Rattle.layout.specs.EntryTable.{listedIn}
 use Rattle.reader.specs.Readings.{readingFrom}
 use Rattle.reference.proofs.Verdicts.{verdict-kept}
-use Rattle.running.proofs.Text.{stored-plan}
+use Rattle.running.proofs.Starting.{stored-plan}
 use Rattle.record_run.proofs.begin_lent.Statement.{statement}
 use Rattle.record_run.proofs.begin_lent.Tie as tie
 

@@ -1,6 +1,6 @@
 -- `stage` does the stage that it is given. Assumes nothing.
 use mathlib.Core.Path.{subst}
-use Rattle.stages.specs.AtMove.{RoomAt}
+use Rattle.move_accesses.specs.AtMove.{RoomAt}
 use borrow.Author.Needs.{needs}
 use Rattle.stages.proofs.stage.Statement.{statement}
 use Rattle.stages.proofs.stage.Tie as tie

@@ -1,0 +1,2 @@
+-- The laws of a run of a text's entries.
+pub mod Text

@@ -1,0 +1,2 @@
+-- What a run of a text's entries has reached.
+pub mod Going
