@@ -41,8 +41,8 @@ fn read_kind(
         Kind::Copy => moves::move_line(moves::copy_of(line, at), p, plan),
         Kind::Set => moves::move_line(moves::set_of(line, at), p, plan),
         Kind::Add => moves::move_line(moves::add_of(line, at), p, plan),
-        Kind::Call => plan_lines::entry_line(plan_lines::call_of(line, at), p, entries),
-        Kind::Step => plan_lines::entry_line(plan_lines::step_of(line, at), p, entries),
+        Kind::Call => entry_lines::entry_line(entry_lines::call_of(line, at), p, entries),
+        Kind::Step => entry_lines::entry_line(entry_lines::step_of(line, at), p, entries),
         Kind::Unknown => LineRead::Refused(Fault::Unknown, p.lines + 1),
     }
 }

@@ -1,4 +1,4 @@
-// The lines `plan`, `job`, `block`, `call` and `step`.
+// The lines `plan`, `job` and `block`.
 ghost use mathlib.Core.Path.{_≡_};
 ghost use mathlib.Core.Bool.{_&&_};
 ghost use mathlib.Core.List.{List};
@@ -12,15 +12,11 @@ ghost use Rattle.format.specs.Plan.{table};
 ghost use Rattle.format.specs.Items.{itemOf};
 ghost use Rattle.format.specs.Faults.{taken};
 ghost use Rattle.layout.specs.PlanTable.{sizesIn, jobAt};
-ghost use Rattle.layout.specs.EntryTable.{entryPlaces};
-ghost use Rattle.line.specs.Steps.{tables, Holds, LineStep, entryItem};
+ghost use Rattle.line.specs.Steps.{tables, Holds, LineStep};
 ghost use Rattle.plan_lines.specs.Words.{WordsRead};
-use format::Entry;
 use format::Fault;
 use format::Sizes;
-use layout::ENTRY_PLACES;
 use layout::PLAN_PLACES;
-use line::EntryRead;
 use line::LineRead;
 use line::Progress;
 use text::Numbers;
@@ -151,62 +147,6 @@ pub fn block_line(line: &[u8], at: usize, p: Progress, plan: &mut [u32; PLAN_PLA
     };
     let mut q = p;
     q.blocks = p.blocks + 1;
-    q.lines = number;
-    LineRead::Read(q)
-}
-
-// What `call job update` says.
-pub fn call_of(line: &[u8], at: usize) -> EntryRead
-    requires { ⌜ at ≤ length (now line) + 1 ⌝ }
-    ensures { λ r. ⌜ entryItem r ≡ itemOf Kind.Call (numbers 2 (fieldsAt (now (line .entry)) at)) ⌝ }
-{
-    let mut n = [0u32; 2];
-    let Numbers::Read = read_numbers(line, at, &mut n) else {
-        return EntryRead::Bad;
-    };
-    EntryRead::Is(Entry {
-        kind: 0,
-        first: n[0],
-        second: n[1],
-    })
-}
-
-// What `step card` says.
-pub fn step_of(line: &[u8], at: usize) -> EntryRead
-    requires { ⌜ at ≤ length (now line) + 1 ⌝ }
-    ensures { λ r. ⌜ entryItem r ≡ itemOf Kind.Step (numbers 1 (fieldsAt (now (line .entry)) at)) ⌝ }
-{
-    let mut n = [0u32; 1];
-    let Numbers::Read = read_numbers(line, at, &mut n) else {
-        return EntryRead::Bad;
-    };
-    EntryRead::Is(Entry {
-        kind: 1,
-        first: n[0],
-        second: 0,
-    })
-}
-
-// A line that holds an entry: it is noted with its line. Its numbers are judged when it runs.
-pub fn entry_line(read: EntryRead, p: Progress, entries: &mut [u32; ENTRY_PLACES]) -> LineRead
-    requires { ⌜ (p .lines < 65536) × (length (now entries) ≡ entryPlaces) ⌝ }
-    ensures { λ r. ⌜ ((kind : Kind) (t : List ℕ) → Holds p t → LineStep kind p
-        (tables t (now (entries .entry)))
-        (tables t (now (entries .exit)))
-        (entryItem read)
-        r) ⌝ }
-{
-    let number = p.lines + 1;
-    let EntryRead::Is(e) = read else {
-        return LineRead::Refused(Fault::Malformed, number);
-    };
-    let i = p.entries;
-    if 4000 <= i {
-        return LineRead::Refused(Fault::TooMany, number);
-    }
-    layout::note(entries, i, e, number as u32);
-    let mut q = p;
-    q.entries = i + 1;
     q.lines = number;
     LineRead::Read(q)
 }

@@ -1,4 +1,4 @@
 -- Laws that the proofs of this crate cite.
-pub mod Writes
+pub mod Fitting
 pub mod Parts
 pub mod Statuses

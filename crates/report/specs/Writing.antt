@@ -1,12 +1,12 @@
--- Bytes written into a lent buffer, as far as it has room, and the report's lines from the parts that the code is
--- given. Assumes nothing.
-use Prim.Native.Nat.{ℕ, _+_, _≤_}
+-- The report's lines from the parts that the code is given, written whole into a lent buffer or not at all. Assumes
+-- nothing.
+use Prim.Native.Nat.{ℕ, _+_}
 use mathlib.Core.Path.{_≡_}
 use mathlib.Core.Bool.{cond}
 use mathlib.Core.List.{List, [], _∷_, _++_}
 use lib.IntN.{ℤ, pos}
 use lib.Dec.{leb}
-use lib.ListN.{length, getD, set, take, drop}
+use lib.ListN.{length, getD, take, drop}
 use Rattle.text.specs.Bytes.{bytes}
 use Rattle.text.specs.Decimal.{decimal}
 use Rattle.format.specs.declared.Sizes.{Sizes}
@@ -17,17 +17,6 @@ use Rattle.model.specs.Working.{noWork}
 use Rattle.model.specs.Machine.{blockIn}
 use Rattle.report.specs.declared.Written.{Written}
 use Rattle.runs.specs.Report.{fieldsBehind, lineOf, statusBytes, joined}
-
--- A buffer with bytes written from a place on. What lies past its end is not written.
-unfoldable pub put : List ℕ → ℕ → List ℕ → List ℕ
-put buffer at [] = buffer
-put buffer at (b ∷ bs) = put (set buffer at b) (at + 1) bs
-
--- Some bytes were written from a place on, at most so many, and the place behind them is known.
-pub record Writes (written : List ℕ) (most at : ℕ) (before : List ℕ) (next : ℕ) (after : List ℕ) : Type 0 where
-  pub next-is : next ≡ at + length written
-  pub at-most : next ≤ at + most
-  pub after-is : after ≡ put before at written
 
 -- The commit lines of rows of an entry, a job and an update.
 abbrev pub rowLines : List (List ℕ) → List ℕ

@@ -2,17 +2,17 @@
 // room, and answers the place behind them: so a report is measured by writing it where there is next to no room.
 ghost use mathlib.Core.Path.{_≡_};
 ghost use mathlib.Core.Bool.{cond};
-ghost use mathlib.Core.List.{[], _∷_, map};
+ghost use mathlib.Core.List.{[]};
 ghost use Prim.Native.Nat.{ℕ, _≤_, _<_, _+_, _*_};
 ghost use lib.IntN.{pos};
 ghost use lib.ListN.{length, getD, take};
 ghost use Rattle.text.specs.Bytes.{bytes};
-ghost use Rattle.text.specs.Decimal.{decimal};
 ghost use Rattle.model.specs.Machine.{blockIn};
 ghost use Rattle.model.specs.Places.{isActive};
 ghost use Rattle.model.specs.Ranges.{StatusIn};
-ghost use Rattle.runs.specs.Report.{fieldsBehind, lineOf, statusBytes};
-ghost use Rattle.report.specs.Writing.{Writes, rowLines, blocksBytes, openBytes, opensBytes, endBytes};
+ghost use Rattle.runs.specs.Report.{lineOf, statusBytes};
+ghost use Rattle.writes.specs.Writes.{Writes};
+ghost use Rattle.report.specs.Writing.{rowLines, blocksBytes, openBytes, opensBytes, endBytes};
 ghost use Rattle.report.specs.Writing.{reportBytes, IsWritten};
 use format::Sizes;
 use model::Cells;
@@ -25,77 +25,12 @@ pub enum Written {
     NoRoom,
 }
 
-// A byte.
-fn put_byte(buffer: &mut [u8], at: usize, byte: u8) -> usize
-    requires { ⌜ at < 4294967296 ⌝ }
-    ensures { λ r. ⌜ Writes (byte ∷ []) 1 at (now (buffer .entry)) r (now (buffer .exit)) ⌝ }
-{
-    if at < buffer.len() {
-        buffer[at] = byte;
-    }
-    at + 1
-}
-
-// Bytes.
-fn put_bytes(buffer: &mut [u8], at: usize, bytes: &[u8]) -> usize
-    requires { ⌜ at + length (now bytes) ≤ 4294967296 ⌝ }
-    ensures { λ r. ⌜ Writes (now (bytes .entry)) (length (now (bytes .entry))) at (now (buffer .entry)) r
-        (now (buffer .exit)) ⌝ }
-{
-    let mut next = at;
-    let mut i = 0;
-    while i < bytes.len() {
-        next = put_byte(buffer, next, bytes[i]);
-        i += 1;
-    }
-    next
-}
-
-// A number in base ten.
-fn put_decimal(buffer: &mut [u8], at: usize, n: u32) -> usize
-    requires { ⌜ at + 10 ≤ 4294967296 ⌝ }
-    ensures { λ r. ⌜ Writes (decimal n) 10 at (now (buffer .entry)) r (now (buffer .exit)) ⌝ }
-{
-    if n < 10 {
-        return put_byte(buffer, at, (48 + n) as u8);
-    }
-    let next = put_decimal(buffer, at, n / 10);
-    put_byte(buffer, next, (48 + n % 10) as u8)
-}
-
-// Numbers, each behind a tab, and the line feed.
-fn put_fields(buffer: &mut [u8], at: usize, numbers: &[u32]) -> usize
-    requires { ⌜ at + (11 * length (now numbers) + 1) ≤ 4294967296 ⌝ }
-    ensures { λ r. ⌜ Writes (fieldsBehind (map decimal (now (numbers .entry))))
-        (11 * length (now (numbers .entry)) + 1) at (now (buffer .entry)) r (now (buffer .exit)) ⌝ }
-{
-    let mut next = at;
-    let mut i = 0;
-    while i < numbers.len() {
-        next = put_byte(buffer, next, 9);
-        next = put_decimal(buffer, next, numbers[i]);
-        i += 1;
-    }
-    put_byte(buffer, next, 10)
-}
-
-// A line: its first field, and numbers.
-fn put_line(buffer: &mut [u8], at: usize, first: &[u8], numbers: &[u32]) -> usize
-    requires { ⌜ at + (length (now first) + (11 * length (now numbers) + 1)) ≤ 4294967296 ⌝ }
-    ensures { λ r. ⌜ Writes (lineOf (now (first .entry)) (now (numbers .entry)))
-        (length (now (first .entry)) + (11 * length (now (numbers .entry)) + 1)) at (now (buffer .entry)) r
-        (now (buffer .exit)) ⌝ }
-{
-    let next = put_bytes(buffer, at, first);
-    put_fields(buffer, next, numbers)
-}
-
 // "`commit entry job update`": the line of a row.
 fn put_commit(buffer: &mut [u8], at: usize, row: [u32; 3]) -> usize
     requires { ⌜ at + 40 ≤ 4294967296 ⌝ }
     ensures { λ r. ⌜ Writes (lineOf (bytes "commit") row) 40 at (now (buffer .entry)) r (now (buffer .exit)) ⌝ }
 {
-    put_line(buffer, at, b"commit", &row)
+    writes::put_line(buffer, at, b"commit", &row)
 }
 
 // "entries counted from 1, in commit order": the lines of the first n rows.
@@ -122,7 +57,7 @@ fn put_block(buffer: &mut [u8], at: usize, words: usize, number: usize, store: &
 {
     let start = number * words;
     let end = start + words;
-    put_line(buffer, at, b"block", &store[start..end])
+    writes::put_line(buffer, at, b"block", &store[start..end])
 }
 
 // "B lines `block` with the words seen through the bank".
@@ -148,10 +83,10 @@ fn put_status(buffer: &mut [u8], at: usize, status: i32) -> usize
     ensures { λ r. ⌜ Writes (statusBytes status) 11 at (now (buffer .entry)) r (now (buffer .exit)) ⌝ }
 {
     if status == -1 {
-        let next = put_byte(buffer, at, 45);
-        return put_decimal(buffer, next, 1);
+        let next = writes::put_byte(buffer, at, 45);
+        return writes::put_decimal(buffer, next, 1);
     }
-    put_decimal(buffer, at, status as u32)
+    writes::put_decimal(buffer, at, status as u32)
 }
 
 // "`open job status`" of a job, where it is active.
@@ -163,12 +98,12 @@ fn put_open(buffer: &mut [u8], at: usize, place: Place, k: usize, status: i32) -
     if !judging::is_active(place) {
         return at;
     }
-    let tab = put_bytes(buffer, at, b"open");
-    let job = put_byte(buffer, tab, 9);
-    let second = put_decimal(buffer, job, k as u32);
-    let value = put_byte(buffer, second, 9);
+    let tab = writes::put_bytes(buffer, at, b"open");
+    let job = writes::put_byte(buffer, tab, 9);
+    let second = writes::put_decimal(buffer, job, k as u32);
+    let value = writes::put_byte(buffer, second, 9);
     let end = put_status(buffer, value, status);
-    put_byte(buffer, end, 10)
+    writes::put_byte(buffer, end, 10)
 }
 
 // "`open job status` for each active job, by job number".
@@ -199,7 +134,7 @@ fn put_end(buffer: &mut [u8], at: usize, number: u32, line: u32) -> usize
     ensures { λ r. ⌜ Writes (endBytes number line) 40 at (now (buffer .entry)) r (now (buffer .exit)) ⌝ }
 {
     let numbers = [number, line];
-    put_line(buffer, at, b"end", &numbers)
+    writes::put_line(buffer, at, b"end", &numbers)
 }
 
 // A report from the buffer's start on, as far as there is room. Answers its whole length.

@@ -6,7 +6,7 @@ use borrow.Author.Needs.{needs}
 use denote.Ref.{now}
 use Rattle.text.specs.Bytes.{bytes}
 use Rattle.runs.specs.Report.{lineOf}
-use Rattle.report.proofs.Writes.{widen, renamed}
+use Rattle.writes.proofs.Writes.{widen, renamed}
 use Rattle.report.proofs.Parts.{block-part, block-end}
 use Rattle.report.proofs.put_block.Statement.{statement}
 use Rattle.report.proofs.put_block.Tie as tie

@@ -9,8 +9,8 @@ use Rattle.text.specs.Bytes.{bytes}
 use Rattle.format.specs.declared.Sizes.{Sizes}
 use Rattle.model.specs.Machine.{blockIn}
 use Rattle.runs.specs.Report.{joined, lineOf}
-use Rattle.report.specs.Writing.{Writes}
-use Rattle.report.proofs.Writes.{nothing, turn, widen, keeps}
+use Rattle.writes.specs.Writes.{Writes}
+use Rattle.writes.proofs.Writes.{nothing, turn, widen, keeps}
 use Rattle.report.proofs.put_blocks.Statement.{statement}
 use Rattle.report.proofs.put_blocks.Tie as tie
 

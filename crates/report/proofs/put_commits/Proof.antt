@@ -7,9 +7,10 @@ use denote.Ref.{now}
 use lib.ListN.{getD, take}
 use Rattle.text.specs.Bytes.{bytes}
 use Rattle.runs.specs.Report.{joined, lineOf}
-use Rattle.report.specs.Writing.{Writes, rowLines}
-use Rattle.report.proofs.Writes.{nothing, turn, renamed, keeps}
-use Rattle.report.proofs.Parts.{joined-of}
+use Rattle.writes.specs.Writes.{Writes}
+use Rattle.report.specs.Writing.{rowLines}
+use Rattle.writes.proofs.Writes.{nothing, turn, renamed, keeps}
+use Rattle.writes.proofs.Parts.{joined-of}
 use Rattle.report.proofs.put_commits.Statement.{statement}
 use Rattle.report.proofs.put_commits.Tie as tie
 

@@ -6,7 +6,7 @@ use borrow.Author.Tests.{not-true, not-false}
 use mir.Syntax.{w32}
 use mir.ValLaws.{toZ-ofZ}
 use Rattle.runs.specs.Report.{statusBytes}
-use Rattle.report.proofs.Writes.{nothing, then, widen, renamed}
+use Rattle.writes.proofs.Writes.{nothing, then, widen, renamed}
 use Rattle.report.proofs.put_open.Statement.{statement}
 use Rattle.report.proofs.put_open.Tie as tie
 

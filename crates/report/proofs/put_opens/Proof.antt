@@ -13,8 +13,9 @@ use Rattle.model.specs.declared.Working.{Working}
 use Rattle.model.specs.Places.{isActive}
 use Rattle.model.specs.Working.{noWork}
 use Rattle.runs.specs.Report.{joined}
-use Rattle.report.specs.Writing.{Writes, openBytes}
-use Rattle.report.proofs.Writes.{nothing, turn, widen, renamed, keeps}
+use Rattle.writes.specs.Writes.{Writes}
+use Rattle.report.specs.Writing.{openBytes}
+use Rattle.writes.proofs.Writes.{nothing, turn, widen, renamed, keeps}
 use Rattle.report.proofs.put_opens.Statement.{statement}
 use Rattle.report.proofs.put_opens.Tie as tie
 

@@ -1,7 +1,7 @@
 -- `put_status` writes −1 with its sign, and any other status as a number. Assumes nothing.
 use native.Mathlib.Omega.{arith}
 use borrow.Author.Needs.{needs}
-use Rattle.report.proofs.Writes.{then, widen, renamed}
+use Rattle.writes.proofs.Writes.{then, widen, renamed}
 use Rattle.report.proofs.Statuses.{is-minus-one, is-number}
 use Rattle.report.proofs.put_status.Statement.{statement}
 use Rattle.report.proofs.put_status.Tie as tie

@@ -1,7 +1,7 @@
 -- `write` measures a report before it writes it. Assumes nothing.
 use native.Mathlib.Omega.{arith}
 use borrow.Author.Needs.{needs}
-use Rattle.report.proofs.Writes.{no-room, all-written}
+use Rattle.report.proofs.Fitting.{no-room, all-written}
 use Rattle.report.proofs.write.Statement.{statement}
 use Rattle.report.proofs.write.Tie as tie
 

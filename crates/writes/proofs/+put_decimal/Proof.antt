@@ -5,14 +5,14 @@ use native.Mathlib.Omega.{arith}
 use borrow.Fn.Kinds.{In}
 use borrow.Fn.PlainCycle.{Measures, is, falls, and}
 use Rattle.text.specs.Decimal.{decimal}
-use Rattle.report.proofs.Writes.{then, widen, within, renamed, keeps}
-use Rattle.report.proofs.Parts.{decimal-small, decimal-large, decimal-short, decimal-most}
-use Rattle.report.proofs.put_byte.Reads as put-byte
-use Rattle.report.proofs.put_decimal.Reads as put-decimal
-use Rattle.report.proofs.put_decimal.Kinds as kinds
-use Rattle.report.proofs.+put_decimal.Lts-put_decimal as lts
-use Rattle.report.proofs.+put_decimal.{statement}
-use Rattle.report.proofs.+put_decimal.Tie.{close}
+use Rattle.writes.proofs.Writes.{then, widen, within, renamed, keeps}
+use Rattle.writes.proofs.Parts.{decimal-small, decimal-large, decimal-short, decimal-most}
+use Rattle.writes.proofs.put_byte.Reads as put-byte
+use Rattle.writes.proofs.put_decimal.Reads as put-decimal
+use Rattle.writes.proofs.put_decimal.Kinds as kinds
+use Rattle.writes.proofs.+put_decimal.Lts-put_decimal as lts
+use Rattle.writes.proofs.+put_decimal.{statement}
+use Rattle.writes.proofs.+put_decimal.Tie.{close}
 
 -- The measure is the number.
 abbrev μ : Measures 1 kinds.ps ℕ

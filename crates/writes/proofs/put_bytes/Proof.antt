@@ -7,11 +7,11 @@ use denote.Ref.{now}
 use lib.ListN.{length, getD}
 use lib.Seq.{take-all}
 use Rattle.runs.specs.Report.{joined}
-use Rattle.report.specs.Writing.{Writes}
-use Rattle.report.proofs.Writes.{nothing, turn, widen, renamed, keeps}
-use Rattle.report.proofs.Parts.{joined-of}
-use Rattle.report.proofs.put_bytes.Statement.{statement}
-use Rattle.report.proofs.put_bytes.Tie as tie
+use Rattle.writes.specs.Writes.{Writes}
+use Rattle.writes.proofs.Writes.{nothing, turn, widen, renamed, keeps}
+use Rattle.writes.proofs.Parts.{joined-of}
+use Rattle.writes.proofs.put_bytes.Statement.{statement}
+use Rattle.writes.proofs.put_bytes.Tie as tie
 
 -- The byte at a place.
 abbrev one : List ℕ → ℕ → List ℕ

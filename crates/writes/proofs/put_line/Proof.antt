@@ -1,8 +1,8 @@
 -- `put_line` writes a first field and the numbers behind it. Assumes nothing.
 use borrow.Author.Needs.{needs}
-use Rattle.report.proofs.Writes.{then}
-use Rattle.report.proofs.put_line.Statement.{statement}
-use Rattle.report.proofs.put_line.Tie as tie
+use Rattle.writes.proofs.Writes.{then}
+use Rattle.writes.proofs.put_line.Statement.{statement}
+use Rattle.writes.proofs.put_line.Tie as tie
 
 put-bytes-requires : tie.Need-put-bytes-requires
 put-bytes-requires c κs = search needs

@@ -5,9 +5,9 @@ use borrow.Author.Needs.{needs}
 use denote.Ref.{now}
 use lib.ListN.{set}
 use lib.Seq.{set-out}
-use Rattle.report.proofs.Writes.{byte, keeps}
-use Rattle.report.proofs.put_byte.Statement.{statement}
-use Rattle.report.proofs.put_byte.Tie as tie
+use Rattle.writes.proofs.Writes.{byte, keeps}
+use Rattle.writes.proofs.put_byte.Statement.{statement}
+use Rattle.writes.proofs.put_byte.Tie as tie
 
 -- What the buffer holds behind the test: a store past its end changes nothing.
 stored : (c : tie.Joined1)

@@ -8,11 +8,11 @@ use lib.ListN.{length, getD}
 use lib.Seq.{take-all}
 use Rattle.text.specs.Decimal.{decimal}
 use Rattle.runs.specs.Report.{joined, fieldsBehind}
-use Rattle.report.specs.Writing.{Writes}
-use Rattle.report.proofs.Writes.{nothing, then, turn, widen, renamed, keeps}
-use Rattle.report.proofs.Parts.{joined-of}
-use Rattle.report.proofs.put_fields.Statement.{statement}
-use Rattle.report.proofs.put_fields.Tie as tie
+use Rattle.writes.specs.Writes.{Writes}
+use Rattle.writes.proofs.Writes.{nothing, then, turn, widen, renamed, keeps}
+use Rattle.writes.proofs.Parts.{joined-of}
+use Rattle.writes.proofs.put_fields.Statement.{statement}
+use Rattle.writes.proofs.put_fields.Tie as tie
 
 -- The field at a place, behind its tab.
 abbrev one : List ℕ → ℕ → List ℕ

@@ -1,7 +1,7 @@
 -- `call_of` meets its contract, by what `read_numbers` ensures. Assumes nothing.
 use borrow.Author.Needs.{needs}
-use Rattle.plan_lines.proofs.call_of.Statement.{statement}
-use Rattle.plan_lines.proofs.call_of.Tie as tie
+use Rattle.entry_lines.proofs.call_of.Statement.{statement}
+use Rattle.entry_lines.proofs.call_of.Tie as tie
 
 slice-aggregate-read-numbers : tie.Need-slice-aggregate-read-numbers
 slice-aggregate-read-numbers c = search needs

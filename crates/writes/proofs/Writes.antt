@@ -1,16 +1,14 @@
 -- Bytes written one behind the other are written together. Assumes nothing.
-use Prim.Native.Nat.{ℕ, suc, _+_, _*_, _≤_, _<_}
+use Prim.Native.Nat.{ℕ, suc, _+_, _*_, _≤_}
 use mathlib.Core.Path.{_≡_, refl, sym, ap, _∙_}
 use mathlib.Core.List.{List, [], _∷_, _++_}
 use native.Mathlib.Nat.{add-zero, zero-add}
 use native.Mathlib.Numerals.{add-one}
 use native.Mathlib.Omega.{arith}
-use borrow.Author.Tests.{le-leb, lt-leb}
 use lib.ListN.{length, set, drop, length-append}
 use lib.Seq.{sets, length-sets, sets-eq}
 use Rattle.runs.specs.Report.{joined}
-use Rattle.report.specs.declared.Written.{Written}
-use Rattle.report.specs.Writing.{put, Writes, IsWritten}
+use Rattle.writes.specs.Writes.{put, Writes}
 
 -- Writing is a run of stores.
 put-sets : (b : List ℕ) (at : ℕ) (xs : List ℕ) → put b at xs ≡ sets b at xs
@@ -27,7 +25,7 @@ put-append b at (x ∷ xs) ys =
     put-append (set b at x) (at + 1) xs ys ∙ rw e
 
 -- Bytes from the start on, where they fit.
-put-whole : (b : List ℕ) (xs : List ℕ) → length xs ≤ length b → put b 0 xs ≡ xs ++ drop (length xs) b
+pub put-whole : (b : List ℕ) (xs : List ℕ) → length xs ≤ length b → put b 0 xs ≡ xs ++ drop (length xs) b
 put-whole b xs h = put-sets b 0 xs ∙ sets-eq xs b 0 (omega arith) ∙ rw (zero-add (length xs))
 
 module _ {xs : List ℕ} {most at next : ℕ} {before after : List ℕ} where
@@ -75,22 +73,3 @@ pub turn : (i : ℕ) (f : ℕ → List ℕ) {k at next next′ : ℕ} {before af
     → Writes (f i) k next after next′ after′
     → Writes (joined (i + 1) f) (k * (i + 1)) at before next′ after′
 turn i f {k} v w = rw (add-one i) (widen (k * suc i) (omega arith) (then v w))
-
--- Bytes that are measured by writing them elsewhere.
-module _ {whole scratch scratch′ : List ℕ} {most measured : ℕ}
-    (m : Writes whole most 0 scratch measured scratch′) where
-  -- There is no room for them.
-  pub no-room : (before : List ℕ) → length before < measured → IsWritten whole before Written.NoRoom before
-  no-room before h =
-      let e = lt-leb (length whole) (length before) (omega (arith, m .next-is)) in
-      record { answer-is = rw e; after-is = rw e }
-
-  -- There is room, and they are written.
-  pub all-written : {before after : List ℕ} {next : ℕ} → Writes whole most 0 before next after
-      → measured ≤ length before
-      → IsWritten whole before (Written.Whole measured) after
-  all-written {before} w h =
-      let fits : length whole ≤ length before = omega (arith, m .next-is) in
-      let e = le-leb (length whole) (length before) fits in
-      let k : measured ≡ length whole = omega (arith, m .next-is) in
-      record { answer-is = rw (e, k); after-is = rw e (w .after-is ∙ put-whole before whole fits) }

@@ -1,8 +1,8 @@
 -- `entry_line` notes an entry with its line. Assumes nothing.
 use Rattle.line.proofs.Lines.{malformed, many-entries, entry-read}
 use borrow.Author.Needs.{needs}
-use Rattle.plan_lines.proofs.entry_line.Statement.{statement}
-use Rattle.plan_lines.proofs.entry_line.Tie as tie
+use Rattle.entry_lines.proofs.entry_line.Statement.{statement}
+use Rattle.entry_lines.proofs.entry_line.Tie as tie
 
 add-number : tie.Need-add-number
 add-number c = search needs

@@ -1,0 +1,2 @@
+-- What writing into a lent buffer promises.
+pub mod Writes
