@@ -8,7 +8,12 @@
 // numbers, a kind and two more, parted by one space.
 ghost use Prim.Native.Nat.{_+_, _≤_, _<_};
 ghost use lib.ListN.{length};
-ghost use Rattle.vectors.specs.Places.{Placed, Within};
+ghost use Rattle.cases.specs.Places.{Placed};
+use cases::Next;
+use cases::Parts;
+use cases::RECORDS;
+use cases::Records;
+use cases::Room;
 use format::Entry;
 use format::Form;
 use libc::STDOUT_FILENO;
@@ -22,48 +27,12 @@ const ROOM: usize = 1400000;
 // Room for the longest report: up to 4,000 commit lines of 18 bytes, 16 block lines of 182, 16 open lines and the end.
 const REPORT: usize = 80000;
 
-// The most records of a case. A schedule of so many is refused.
-const RECORDS: usize = 4002;
-
 // What every byte of the buffer is before a run.
 const MARKER: u8 = 170;
-
-// The lengths of a case's text, of its records and of its output.
-struct Lengths {
-    text: usize,
-    records: usize,
-    output: usize,
-}
-
-// What a case's first line says.
-enum Header {
-    Read(Lengths),
-    Malformed,
-}
-
-// Where a case's parts end in its pack: its first line, its text, its records and its output.
-struct Parts {
-    header: usize,
-    text: usize,
-    records: usize,
-    output: usize,
-}
-
-// What stands at a place of a pack.
-enum Next {
-    Case(Parts),
-    Malformed,
-}
 
 // What the last line of a case's output says.
 enum Ending {
     Read(Answer),
-    Malformed,
-}
-
-// How much room a case has for its report.
-enum Room {
-    Bytes(usize),
     Malformed,
 }
 
@@ -80,135 +49,18 @@ enum Outcome {
     Malformed,
 }
 
-// What a record's line says.
-enum RecordRead {
-    Read(Entry),
-    Malformed,
-}
-
-// The records of a case, and how many there are. They are malformed where a line is no record or there are too many.
-struct Records {
-    entries: [Entry; RECORDS],
-    count: usize,
-    malformed: bool,
-}
-
-// How many bytes of a slice are x.
-fn count(bytes: &[u8], x: u8) -> usize {
-    let mut found = 0;
-    let mut i = 0;
-    while i < bytes.len() {
-        if bytes[i] == x {
-            found += 1;
-        }
-        i += 1;
-    }
-    found
-}
-
-// The word of a line that `before` words precede, where x parts the words. It is empty where the line has too few.
-fn word(line: &[u8], x: u8, before: usize) -> &[u8] {
-    let mut start = 0;
-    let mut end = text::find(line, 0, x);
-    let mut left = before;
-    while left > 0 {
-        if end == line.len() {
-            return &line[..0];
-        }
-        start = end + 1;
-        end = text::find(line, start, x);
-        left -= 1;
-    }
-    &line[start..end]
-}
-
-// The lengths that a case's first line gives. It is malformed where it has not seven words, or a length is no number.
-fn read_header(header: &[u8]) -> Header {
-    if count(header, b' ') != 6 {
-        return Header::Malformed;
-    }
-    if !check::same(word(header, b' ', 0), b"case") {
-        return Header::Malformed;
-    }
-    let Number::Value(text) = text::number_of(word(header, b' ', 4)) else {
-        return Header::Malformed;
-    };
-    let Number::Value(records) = text::number_of(word(header, b' ', 5)) else {
-        return Header::Malformed;
-    };
-    let Number::Value(output) = text::number_of(word(header, b' ', 6)) else {
-        return Header::Malformed;
-    };
-    Header::Read(Lengths {
-        text: text as usize,
-        records: records as usize,
-        output: output as usize,
-    })
-}
-
-// The parts of a case whose first line ends at a place of a pack of that size. It is malformed where a part runs past
-// the pack's end.
-fn lay_out(header: usize, size: usize, lengths: Lengths) -> Next
-    requires { ⌜ header < size ⌝ }
-    ensures { λ r. ⌜ Within header size r ⌝ }
-{
-    let start = header + 1;
-    if size - start < lengths.text {
-        return Next::Malformed;
-    }
-    let text = start + lengths.text;
-    if size - text < lengths.records {
-        return Next::Malformed;
-    }
-    let records = text + lengths.records;
-    if size - records < lengths.output {
-        return Next::Malformed;
-    }
-    let output = records + lengths.output;
-    Next::Case(Parts {
-        header,
-        text,
-        records,
-        output,
-    })
-}
-
-// The parts of the case at a place of a pack.
-fn next_case(pack: &[u8], at: usize) -> Next
-    requires { ⌜ at ≤ length (now pack) ⌝ }
-    ensures { λ r. ⌜ Within at (length (now (pack .entry))) r ⌝ }
-{
-    let end = text::find(pack, at, b'\n');
-    if end == pack.len() {
-        return Next::Malformed;
-    }
-    let Header::Read(lengths) = read_header(&pack[at..end]) else {
-        return Next::Malformed;
-    };
-    lay_out(end, pack.len(), lengths)
-}
-
-// The last line of bytes whose lines are each ended by a line feed.
-fn last_line(bytes: &[u8]) -> &[u8] {
-    let lines = count(bytes, b'\n');
-    if lines == 0 {
-        return &bytes[..0];
-    }
-    word(bytes, b'\n', lines - 1)
-}
-
 // The number and line that a line `end n l` gives.
 fn read_ending(line: &[u8]) -> Ending {
-    if count(line, b'\t') != 2 {
+    if cases::count(line, b'\t') != 2 {
         return Ending::Malformed;
     }
-    if !check::same(word(line, b'\t', 0), b"end") {
+    if !check::same(cases::word(line, b'\t', 0), b"end") {
         return Ending::Malformed;
     }
-    let Number::Value(number) = text::number_of(word(line, b'\t', 1)) else {
+    let Number::Value(number) = text::number_of(cases::word(line, b'\t', 1)) else {
         return Ending::Malformed;
     };
-    let Number::Value(place) = text::number_of(word(line, b'\t', 2)) else {
+    let Number::Value(place) = text::number_of(cases::word(line, b'\t', 2)) else {
         return Ending::Malformed;
     };
     Ending::Read(Answer {
@@ -222,7 +74,7 @@ fn read_ending(line: &[u8]) -> Ending {
 fn wanted(text: &[u8], end: Answer) -> Answer {
     let accepted = Answer {
         number: 0,
-        line: count(text, b'\n'),
+        line: cases::count(text, b'\n'),
     };
     if end.number < 1 {
         return accepted;
@@ -231,26 +83,6 @@ fn wanted(text: &[u8], end: Answer) -> Answer {
         return accepted;
     }
     end
-}
-
-// The report that a case's output is. An output of one line is none: a report has a line for each block besides.
-fn wanted_report(output: &[u8]) -> &[u8] {
-    let line = last_line(output);
-    if line.len() + 1 == output.len() {
-        return &output[..0];
-    }
-    output
-}
-
-// The room that a case's word says, where all that there is is large enough.
-fn room_of(bytes: &[u8], all: usize) -> Room {
-    if check::same(bytes, b"-") {
-        return Room::Bytes(all);
-    }
-    let Number::Value(number) = text::number_of(bytes) else {
-        return Room::Malformed;
-    };
-    Room::Bytes(number as usize)
 }
 
 // Writes bytes to standard output.
@@ -291,24 +123,11 @@ fn print_difference(got: Answer, want: Answer) {
     print(b"\n");
 }
 
-// How many lines of a report stand in the output as well, before the first that does not.
-fn same_lines(report: &[u8], output: &[u8]) -> usize {
-    let lines = count(report, b'\n');
-    let mut i = 0;
-    while i < lines {
-        if !check::same(word(report, b'\n', i), word(output, b'\n', i)) {
-            return i;
-        }
-        i += 1;
-    }
-    i
-}
-
 // Writes the first line of a report that is not the one that is wanted, and the one that is.
 fn print_lines(report: &[u8], output: &[u8]) {
-    let before = same_lines(report, output);
-    print_both(b"report: got ", word(report, b'\n', before));
-    print_both(b", wanted ", word(output, b'\n', before));
+    let before = cases::same_lines(report, output);
+    print_both(b"report: got ", cases::word(report, b'\n', before));
+    print_both(b", wanted ", cases::word(output, b'\n', before));
     print(b"\n");
 }
 
@@ -333,93 +152,12 @@ fn check_case(pack_name: &[u8], case_name: &[u8], text: &[u8], end: Answer) -> b
     false
 }
 
-// Writes x to every byte.
-fn fill(bytes: &mut [u8], x: u8) {
-    let mut i = 0;
-    while i < bytes.len() {
-        bytes[i] = x;
-        i += 1;
-    }
-}
-
 // Runs a text, with n bytes lent for the report.
 fn run_text(text: &[u8], room: &mut [u8], n: usize) -> Ended
     requires { ⌜ n ≤ length (now room) ⌝ }
     ensures { λ r. ⌜ r .length ≤ n ⌝ }
 {
     reference::run(text, &mut room[..n])
-}
-
-// The record that a line `kind first second` gives.
-fn read_record(line: &[u8]) -> RecordRead {
-    if count(line, b' ') != 2 {
-        return RecordRead::Malformed;
-    }
-    let Number::Value(kind) = text::number_of(word(line, b' ', 0)) else {
-        return RecordRead::Malformed;
-    };
-    let Number::Value(first) = text::number_of(word(line, b' ', 1)) else {
-        return RecordRead::Malformed;
-    };
-    let Number::Value(second) = text::number_of(word(line, b' ', 2)) else {
-        return RecordRead::Malformed;
-    };
-    RecordRead::Read(Entry {
-        kind,
-        first,
-        second,
-    })
-}
-
-// The records so far, with those of more lines, from a place on.
-fn add_records(records: Records, bytes: &[u8], from: usize) -> Records {
-    let mut entries = records.entries;
-    let mut n = records.count;
-    let mut at = from;
-    while at < bytes.len() {
-        let end = text::find(bytes, at, b'\n');
-        let RecordRead::Read(e) = read_record(&bytes[at..end]) else {
-            return Records {
-                entries,
-                count: n,
-                malformed: true,
-            };
-        };
-        if n >= RECORDS {
-            return Records {
-                entries,
-                count: n,
-                malformed: true,
-            };
-        }
-        entries[n] = e;
-        n += 1;
-        at = end + 1;
-    }
-    Records {
-        entries,
-        count: n,
-        malformed: false,
-    }
-}
-
-// The records of a case.
-fn read_records(bytes: &[u8]) -> Records {
-    let none = Entry {
-        kind: 0,
-        first: 0,
-        second: 0,
-    };
-    let entries = [none; RECORDS];
-    add_records(
-        Records {
-            entries,
-            count: 0,
-            malformed: false,
-        },
-        bytes,
-        0,
-    )
 }
 
 // Runs a plan's text with the first records of some, with n bytes lent for the report.
@@ -440,12 +178,12 @@ fn run_schedule(
 fn kept(bytes: &[u8], from: usize) -> bool
     requires { ⌜ from ≤ length (now bytes) ⌝ }
 {
-    count(&bytes[from..], MARKER) == bytes.len() - from
+    cases::count(&bytes[from..], MARKER) == bytes.len() - from
 }
 
 // Whether a report is the one that is wanted. Writes a line where it is not.
 fn compare_report(pack_name: &[u8], case_name: &[u8], report: &[u8], output: &[u8]) -> bool {
-    if check::same(report, wanted_report(output)) {
+    if check::same(report, cases::wanted_report(output)) {
         return true;
     }
     print_names(pack_name, case_name);
@@ -510,7 +248,7 @@ fn try_case(
 ) -> bool
     requires { ⌜ n ≤ length (now room) ⌝ }
 {
-    fill(room, MARKER);
+    cases::fill(room, MARKER);
     let ended = run_text(text, room, n);
     compare_run(pack_name, case_name, output, end, ended, room)
 }
@@ -536,7 +274,7 @@ fn try_schedule(
         return Outcome::Malformed;
     }
     let entries = records.entries;
-    fill(room, MARKER);
+    cases::fill(room, MARKER);
     let ended = run_schedule(text, entries, count, room, n);
     let agrees = compare_run(pack_name, case_name, output, end, ended, room);
     Outcome::Scheduled(agrees)
@@ -551,19 +289,19 @@ fn run_case(
     output: &[u8],
     room: &mut [u8],
 ) -> Outcome {
-    let Room::Bytes(n) = room_of(word(header, b' ', 3), room.len()) else {
+    let Room::Bytes(n) = cases::room_of(cases::word(header, b' ', 3), room.len()) else {
         return Outcome::Malformed;
     };
     if n > room.len() {
         return Outcome::Malformed;
     }
-    let Ending::Read(end) = read_ending(last_line(output)) else {
+    let Ending::Read(end) = read_ending(cases::last_line(output)) else {
         return Outcome::Malformed;
     };
-    let case_name = word(header, b' ', 1);
-    let kind = word(header, b' ', 2);
+    let case_name = cases::word(header, b' ', 1);
+    let kind = cases::word(header, b' ', 2);
     if check::same(kind, b"schedule") {
-        let entries = read_records(records);
+        let entries = cases::read_records(records);
         return try_schedule(pack_name, case_name, text, entries, output, end, room, n);
     }
     if !check::same(kind, b"run") {
@@ -650,7 +388,7 @@ fn run_pack(name: &[u8], pack: &[u8], room: &mut [u8]) {
     let mut scheduled = 0;
     let mut at = 0;
     while at < pack.len() {
-        let Next::Case(parts) = next_case(pack, at) else {
+        let Next::Case(parts) = cases::next_case(pack, at) else {
             print_malformed(name);
             return;
         };

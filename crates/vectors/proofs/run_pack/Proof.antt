@@ -5,10 +5,10 @@ use native.Mathlib.Omega.{arith}
 use mathlib.Core.Path.{_≡_, subst}
 use lib.ListN.{length}
 use denote.Ref.{now}
-use Rattle.vectors.specs.declared.Next.{Next}
-use Rattle.vectors.specs.declared.Next.the-variants.{Case}
-use Rattle.vectors.specs.declared.Parts.{Parts}
-use Rattle.vectors.specs.Places.{Placed, Within}
+use Rattle.cases.specs.declared.Next.{Next}
+use Rattle.cases.specs.declared.Next.the-variants.{Case}
+use Rattle.cases.specs.declared.Parts.{Parts}
+use Rattle.cases.specs.Places.{Placed, Within}
 use borrow.Author.Needs.{needs}
 use Rattle.vectors.proofs.run_pack.Statement.{statement}
 use Rattle.vectors.proofs.run_pack.Tie as tie

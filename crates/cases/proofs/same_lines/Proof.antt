@@ -1,8 +1,8 @@
 -- `same_lines` is safe and ends. Assumes nothing.
 use Prim.Native.Nat.{_≤_, _-_}
 use borrow.Author.Needs.{needs}
-use Rattle.vectors.proofs.same_lines.Statement.{statement}
-use Rattle.vectors.proofs.same_lines.Tie as tie
+use Rattle.cases.proofs.same_lines.Statement.{statement}
+use Rattle.cases.proofs.same_lines.Tie as tie
 
 abbrev Inv-loop : tie.InvT-loop
 Inv-loop report output lines i₀ i = i ≤ lines

@@ -2,8 +2,8 @@
 use Prim.Native.Nat.{_≤_}
 use lib.ListN.{length}
 use borrow.Author.Needs.{needs}
-use Rattle.vectors.proofs.word.Statement.{statement}
-use Rattle.vectors.proofs.word.Tie as tie
+use Rattle.cases.proofs.word.Statement.{statement}
+use Rattle.cases.proofs.word.Tie as tie
 
 abbrev Inv-loop : tie.InvT-loop
 Inv-loop line x before start₀ end₀ left₀ start end left = (start ≤ end) × (end ≤ length line)

@@ -2,12 +2,12 @@
 -- nothing.
 use Prim.Native.Nat.{ℕ, _≤_}
 use native.Mathlib.Omega.{arith}
-use Rattle.vectors.specs.declared.Next.{Next}
-use Rattle.vectors.specs.declared.Next.the-variants.{Case, Malformed}
-use Rattle.vectors.specs.Places.{Within}
+use Rattle.cases.specs.declared.Next.{Next}
+use Rattle.cases.specs.declared.Next.the-variants.{Case, Malformed}
+use Rattle.cases.specs.Places.{Within}
 use borrow.Author.Needs.{needs}
-use Rattle.vectors.proofs.next_case.Statement.{statement}
-use Rattle.vectors.proofs.next_case.Tie as tie
+use Rattle.cases.proofs.next_case.Statement.{statement}
+use Rattle.cases.proofs.next_case.Tie as tie
 
 -- A case placed from a place on is placed from any place before it on.
 from-before : (at end size : ℕ) (r : Next) → at ≤ end → Within end size r → Within at size r

@@ -1,8 +1,8 @@
 -- Where the parts of a case may stand in its pack. Assumes nothing.
 use Prim.Native.Nat.{ℕ, _≤_, _<_}
-use Rattle.vectors.specs.declared.Next.{Next}
-use Rattle.vectors.specs.declared.Next.the-variants.{Case, Malformed}
-use Rattle.vectors.specs.declared.Parts.{Parts}
+use Rattle.cases.specs.declared.Next.{Next}
+use Rattle.cases.specs.declared.Next.the-variants.{Case, Malformed}
+use Rattle.cases.specs.declared.Parts.{Parts}
 
 -- parts that follow one another from a place of a pack on, with none past the pack's size
 pub record Placed (at size : ℕ) (p : Parts) : Type 0 where

@@ -3,8 +3,8 @@ use Prim.Native.Nat.{_-_}
 use lib.ListN.{length}
 use native.Mathlib.Omega.{arith}
 use borrow.Author.Needs.{needs}
-use Rattle.vectors.proofs.add_records.Statement.{statement}
-use Rattle.vectors.proofs.add_records.Tie as tie
+use Rattle.cases.proofs.add_records.Statement.{statement}
+use Rattle.cases.proofs.add_records.Tie as tie
 
 abbrev Inv-loop : tie.InvT-loop
 Inv-loop bytes from entries₀ n₀ at₀ entries n at = Unit {0}

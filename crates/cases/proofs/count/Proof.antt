@@ -4,8 +4,8 @@ use lib.ListN.{length}
 use mathlib.Core.Logic.{⊎-elim}
 use native.Mathlib.Omega.{arith}
 use borrow.Author.Needs.{needs}
-use Rattle.vectors.proofs.count.Statement.{statement}
-use Rattle.vectors.proofs.count.Tie as tie
+use Rattle.cases.proofs.count.Statement.{statement}
+use Rattle.cases.proofs.count.Tie as tie
 
 abbrev Inv-loop : tie.InvT-loop
 Inv-loop bytes x found₀ i₀ found i = (i ≤ length bytes) × (found ≤ i)
