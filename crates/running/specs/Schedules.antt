@@ -103,8 +103,8 @@ pub record Begun (plan : Plan) (progress : Progress) : Type 0 where
 abbrev pub emptyRows : List (List ℕ)
 emptyRows = replicate 16 (replicate 16 0)
 
--- A run is about to start: the plan is sound, the entries are few, the store has the opening memory, the rows are empty,
--- and there is room for 4,000 commits.
+-- A run is about to start: the plan is sound, the entries are few, the store has the opening memory, the rows are
+-- empty, and there is room for 4,000 commits.
 pub record Starts (plan : Plan) (es : List Entry) (x : Lent) : Type 0 where
   pub sound : Sound plan
   pub few : length es ≤ 4000

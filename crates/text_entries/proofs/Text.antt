@@ -207,6 +207,7 @@ module _ {plan : Plan} (e : List ℕ) (count : ℕ) {x₀ : Lent}
                 (x′ .commits)
             whole =
                 subst
-                (λ es. Reached plan (entriesIn listed) es after (x′ .store) (x′ .addr) (x′ .old) (x′ .new) (x′ .commits))
+                (λ es. Reached plan (entriesIn listed) es after (x′ .store) (x′ .addr) (x′ .old) (x′ .new)
+                (x′ .commits))
                 together
                 (stopped-at r (entriesIn behind) y stops)

@@ -11,7 +11,7 @@ use Rattle.record_run.proofs.begin.Tie as tie
 begin-lent-requires : tie.Need-begin-lent-requires
 unfolding emptyPlan
 begin-lent-requires c κs =
-  (refl, (length-replicate {A = ℕ} entryPlaces 0, c .before .before .before .before .before .pre))
+    (refl, (length-replicate {A = ℕ} entryPlaces 0, c .before .before .before .before .before .pre))
 
 same-length : tie.Need-same-length
 same-length c = search needs
