@@ -59,6 +59,14 @@ fn get(plan: &[u32; PLAN_PLACES], at: usize) -> u32
     plan[at]
 }
 
+// The number at a place of a plan's table, as a size.
+fn size(plan: &[u32; PLAN_PLACES], at: usize) -> usize
+    requires { ⌜ at < planPlaces ⌝ }
+    ensures { λ r. ⌜ r ≡ getD (now (plan .entry)) at 0 ⌝ }
+{
+    get(plan, at) as usize
+}
+
 // Puts a number at a place of a plan's table.
 fn put(plan: &mut [u32; PLAN_PLACES], at: usize, n: u32)
     requires { ⌜ at < planPlaces ⌝ }
@@ -72,11 +80,11 @@ pub fn sizes(plan: &[u32; PLAN_PLACES]) -> Sizes
     ensures { λ r. ⌜ r ≡ sizesIn (now (plan .entry)) ⌝ }
 {
     Sizes {
-        cards: wide(get(plan, 0)),
-        jobs: wide(get(plan, 1)),
-        blocks: wide(get(plan, 2)),
-        words: wide(get(plan, 3)),
-        copies: wide(get(plan, 4)),
+        cards: size(plan, 0),
+        jobs: size(plan, 1),
+        blocks: size(plan, 2),
+        words: size(plan, 3),
+        copies: size(plan, 4),
     }
 }
 
@@ -84,7 +92,7 @@ pub fn sizes(plan: &[u32; PLAN_PLACES]) -> Sizes
 pub fn updates(plan: &[u32; PLAN_PLACES]) -> usize
     ensures { λ r. ⌜ r ≡ updatesIn (now (plan .entry)) ⌝ }
 {
-    wide(get(plan, UPDATES))
+    size(plan, UPDATES)
 }
 
 // Job k's card.

@@ -28,7 +28,7 @@ use denote.Plain.{uint-makes, uint-vals, uint-tells, uint-lawful}
 use denote.Laws.{Is, Tells, Makes, Lawful}
 use denote.Slice.{Room}
 use Rattle.running.specs.Schedules.{emptyRows}
-use Rattle.text_run.specs.Finishing.{emptyStore}
+use Rattle.opening.specs.Store.{emptyStore}
 use Rattle.walks.proofs.Lent.{repeat-is}
 
 abbrev pub Table : Type 0

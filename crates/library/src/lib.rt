@@ -69,5 +69,5 @@ pub extern "C" fn point_memory_run_schedule(
     let verdict = begun.verdict;
     let plan = begun.plan;
     let sizes = plan.sizes;
-    record_run::finish(verdict, count, sizes, walk, &store, &commits, buffer)
+    record_end::finish(verdict, count, sizes, walk, &store, &commits, buffer)
 }

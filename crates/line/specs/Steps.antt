@@ -2,7 +2,7 @@
 -- or the answer is the line's refusal. Progress and the answers are declared in src/lib.rt. Assumes nothing.
 use Prim.Native.Nat.{ℕ, _+_, _≤_, _<_}
 use mathlib.Core.Path.{_≡_}
-use mathlib.Core.Bool.{Bool, true, false}
+use mathlib.Core.Bool.{Bool, true, false, cond}
 use mathlib.Core.List.{List, _++_}
 use mathlib.Core.Option.{Option, none, some}
 use lib.Dec.{eqb}
@@ -11,15 +11,13 @@ use Rattle.format.specs.declared.Form.{Form}
 use Rattle.format.specs.declared.Kind.{Kind}
 use Rattle.format.specs.declared.Sizes.{Sizes}
 use Rattle.format.specs.Plan.{any, blockOf, written}
-use Rattle.format.specs.Items.{Item, move, entry, Record}
+use Rattle.format.specs.Items.{Item, Record}
 use Rattle.format.specs.Faults.{Draft, hasFault, stands, isUnknown, lastOf}
 use Rattle.format.specs.Reading.{Outcome, refused, sound, after, firstOf, byNumber, orElse, recordIn, listed}
 use Rattle.layout.specs.PlanTable.{planPlaces, sizesIn, updatesIn, countAt, planUpTo}
 use Rattle.layout.specs.EntryTable.{listedIn}
 use Rattle.line.specs.declared.Progress.{Progress}
 use Rattle.line.specs.declared.LineRead.{LineRead}
-use Rattle.line.specs.declared.MoveRead.{MoveRead}
-use Rattle.line.specs.declared.EntryRead.{EntryRead}
 
 -- The tables that a reading fills: the plan's, and the entries'.
 pub record Tables : Type 0 where
@@ -108,15 +106,9 @@ pub record LineDone (form : Form) (p : Progress) (x x′ : Tables) (bytes : List
   pub holds : HoldsAfter r (x′ .plan)
   pub noted : NotedAfter p r (x .entries) (x′ .entries) (recordAt p (x .plan) bytes .item)
 
--- What a line that holds a move says, by what was read of it.
-abbrev pub moveItem : MoveRead → Option Item
-moveItem (MoveRead.Is m) = some (move m)
-moveItem MoveRead.Bad = none
-
--- What a line that holds an entry says, by what was read of it.
-abbrev pub entryItem : EntryRead → Option Item
-entryItem (EntryRead.Is e) = some (entry e)
-entryItem EntryRead.Bad = none
+-- What a line says, where its numbers could be read.
+abbrev pub itemIf : Bool → Item → Option Item
+itemIf read i = cond read (some i) none
 
 -- Whether one of the words is in a block of size s.
 abbrev pub writesTo : ℕ → ℕ → List ℕ → Bool

@@ -7,15 +7,14 @@ ghost use Rattle.text.specs.Lines.{numbers};
 ghost use Rattle.text.specs.Places.{fieldsAt};
 ghost use Rattle.format.specs.declared.Kind.{Kind};
 ghost use Rattle.format.specs.Plan.{named};
-ghost use Rattle.format.specs.Items.{itemOf};
+ghost use Rattle.format.specs.Items.{itemOf, move};
 ghost use Rattle.format.specs.Faults.{someFrom};
 ghost use Rattle.layout.specs.PlanTable.{updatesIn};
-ghost use Rattle.line.specs.Steps.{tables, Holds, LineStep, moveItem};
+ghost use Rattle.line.specs.Steps.{tables, Holds, LineStep, itemIf};
 use format::Fault;
 use format::Move;
 use layout::PLAN_PLACES;
 use line::LineRead;
-use line::MoveRead;
 use line::Progress;
 use text::Numbers;
 use text::read_numbers;
@@ -46,42 +45,6 @@ pub fn update_line(line: &[u8], at: usize, p: Progress, plan: &mut [u32; PLAN_PL
     LineRead::Read(q)
 }
 
-// What `copy d a` says.
-pub fn copy_of(line: &[u8], at: usize) -> MoveRead
-    requires { ⌜ at ≤ length (now line) + 1 ⌝ }
-    ensures { λ r. ⌜ moveItem r ≡ itemOf Kind.Copy (numbers 2 (fieldsAt (now (line .entry)) at)) ⌝ }
-{
-    let mut n = [0u32; 2];
-    let Numbers::Read = read_numbers(line, at, &mut n) else {
-        return MoveRead::Bad;
-    };
-    MoveRead::Is(Move::Copy(n[0], n[1]))
-}
-
-// What `set d k` says.
-pub fn set_of(line: &[u8], at: usize) -> MoveRead
-    requires { ⌜ at ≤ length (now line) + 1 ⌝ }
-    ensures { λ r. ⌜ moveItem r ≡ itemOf Kind.Set (numbers 2 (fieldsAt (now (line .entry)) at)) ⌝ }
-{
-    let mut n = [0u32; 2];
-    let Numbers::Read = read_numbers(line, at, &mut n) else {
-        return MoveRead::Bad;
-    };
-    MoveRead::Is(Move::Set(n[0], n[1]))
-}
-
-// What `add d a k` says.
-pub fn add_of(line: &[u8], at: usize) -> MoveRead
-    requires { ⌜ at ≤ length (now line) + 1 ⌝ }
-    ensures { λ r. ⌜ moveItem r ≡ itemOf Kind.Add (numbers 3 (fieldsAt (now (line .entry)) at)) ⌝ }
-{
-    let mut n = [0u32; 3];
-    let Numbers::Read = read_numbers(line, at, &mut n) else {
-        return MoveRead::Bad;
-    };
-    MoveRead::Is(Move::Add(n[0], n[1], n[2]))
-}
-
 // Whether a move names a word that is not below a limit.
 fn names_past(m: Move, limit: u32) -> bool
     ensures { λ r. ⌜ r ≡ someFrom limit (named m) ⌝ }
@@ -96,19 +59,19 @@ fn names_past(m: Move, limit: u32) -> bool
     }
 }
 
-// A line that holds a move: it is judged, and put behind the moves of the last update.
-pub fn move_line(read: MoveRead, p: Progress, plan: &mut [u32; PLAN_PLACES]) -> LineRead
+// A line that holds a move, where its numbers could be read: it is judged, and put behind the moves of the last update.
+pub fn move_line(read: bool, m: Move, p: Progress, plan: &mut [u32; PLAN_PLACES]) -> LineRead
     requires { ⌜ (0 < updatesIn (now plan)) × ((p .lines < 65536) × Holds p (now plan)) ⌝ }
     ensures { λ r. ⌜ ((kind : Kind) (e : List ℕ) → LineStep kind p
         (tables (now (plan .entry)) e)
         (tables (now (plan .exit)) e)
-        (moveItem read)
+        (itemIf «read» (move m))
         r) ⌝ }
 {
     let number = p.lines + 1;
-    let MoveRead::Is(m) = read else {
+    if !read {
         return LineRead::Refused(Fault::Malformed, number);
-    };
+    }
     let last = layout::updates(plan) - 1;
     let count = layout::wide(layout::count(plan, last));
     if 16 <= count {

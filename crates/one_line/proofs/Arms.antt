@@ -1,42 +1,52 @@
 -- What a line's function promises at the kind that was met, carried over to the kind that the dispatch has. Assumes
 -- nothing.
 use Prim.Native.Nat.{ℕ, _+_, _<_}
-use mathlib.Core.Path.{_≡_, sym, _∙_, subst}
+use mathlib.Core.Path.{_≡_, refl, sym, _∙_, ap, subst}
 use mathlib.Core.Bool.{Bool, true, false, not, _&&_, false≢true}
 use mathlib.Core.List.{List}
-use mathlib.Core.Option.{Option}
+use mathlib.Core.Option.{Option, none, some}
 use lib.Dec.{ltb, eqb}
 use lib.ListN.{length, take}
 use borrow.Author.Tests.{ltb-true, eqb-true}
 use Rattle.text.proofs.Cases.{both}
 use Rattle.text.specs.Lines.{numbers}
-use Rattle.text.specs.Places.{placeOf, fieldsAt}
+use Rattle.text.specs.declared.Three.{Three}
+use Rattle.text.specs.Places.{placeOf, fieldsAt, asThree}
 use Rattle.text.proofs.Lines.{fields-first}
 use Rattle.format.specs.declared.Fault.{Fault}
 use Rattle.format.specs.declared.Form.{Form}
 use Rattle.format.specs.declared.Kind.{Kind}
 use Rattle.format.specs.Kinds.{kindOf}
-use Rattle.format.specs.Items.{Item, itemOf, count, Record, recordOf}
+use Rattle.format.specs.Items.{Item, item, itemOf, count, Record, recordOf}
 use Rattle.format.specs.Faults.{isUnknown, stands, laidOut, lacksJobs, lacksBlocks}
 use Rattle.format.specs.Plan.{table}
 use Rattle.layout.specs.PlanTable.{sizesIn, updatesIn, updateAt}
 use Rattle.line.specs.declared.Progress.{Progress}
 use Rattle.line.specs.declared.LineRead.{LineRead}
-use Rattle.line.specs.Steps.{Tables, draftOf, NotedAfter, LineStep, LineDone, Standing}
+use Rattle.line.specs.Steps.{Tables, draftOf, NotedAfter, LineStep, LineDone, Standing, itemIf}
 use Rattle.format.proofs.Tables.{length-table}
 use Rattle.line.proofs.Lacking.{lacks-jobs}
 
 -- The kind is the one that was met.
-pub at-kind : (k met : Kind) (s : ℕ) (fs : List (List ℕ)) (p : Progress) (x x′ : Tables) (r : LineRead) → k ≡ met
-    → LineStep met p x x′ (itemOf met (numbers (count s met) fs)) r
-    → LineStep k p x x′ (itemOf k (numbers (count s k) fs)) r
-at-kind k met s fs p x x′ r e step =
-    subst (λ (y : Kind). LineStep y p x x′ (itemOf y (numbers (count s y) fs)) r) (sym e) step
+module _ (k met : Kind) (s : ℕ) (fs : List (List ℕ)) (p : Progress) (x x′ : Tables) (r : LineRead) (e : k ≡ met) where
+  -- What is promised of the one is promised of the other.
+  pub at-kind : LineStep met p x x′ (itemOf met (numbers (count s met) fs)) r
+      → LineStep k p x x′ (itemOf k (numbers (count s k) fs)) r
+  at-kind step = subst (λ (y : Kind). LineStep y p x x′ (itemOf y (numbers (count s y) fs)) r) (sym e) step
 
--- The line says what was read of it.
-pub at-item : (k : Kind) (p : Progress) (x x′ : Tables) (i j : Option Item) (r : LineRead) → i ≡ j
-    → LineStep k p x x′ i r → LineStep k p x x′ j r
-at-item k p x x′ i j r e step = subst (λ (y : Option Item). LineStep k p x x′ y r) e step
+  -- A line with at most three numbers says what is made of them, where its kind makes the same.
+  pub at-three : (made : Three → Item) → ((ns : List ℕ) → some (made (asThree (some ns))) ≡ item met ns) → (n : Three)
+      → n ≡ asThree (numbers (count s met) fs) → LineStep met p x x′ (itemIf (n .read) (made n)) r
+      → LineStep k p x x′ (itemOf k (numbers (count s k) fs)) r
+  at-three made same n is step =
+      at-kind
+      (subst (λ (i : Option Item). LineStep met p x x′ i r)
+      (ap (λ (y : Three). itemIf (y .read) (made y)) is ∙ by (numbers (count s met) fs))
+      step)
+    where
+      by : (o : Option (List ℕ)) → itemIf (asThree o .read) (made (asThree o)) ≡ itemOf met o
+      by none = refl
+      by (some ns) = same ns
 
 -- Of an unknown kind nothing is promised here.
 pub at-unknown : (p : Progress) (x x′ : Tables) (i : Option Item) (f : Fault) (n : ℕ)

@@ -1,2 +1,3 @@
--- The law that the loops of this crate share.
+-- The laws that the proofs of this crate cite.
 pub mod Filling
+pub mod Store

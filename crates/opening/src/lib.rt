@@ -4,10 +4,12 @@ ghost use Prim.Native.Nat.{_≤_, _<_, _+_, _*_};
 ghost use lib.ListN.{length};
 ghost use lib.Seq.{paste};
 ghost use Rattle.format.specs.Plan.{Plan, table};
+ghost use Rattle.format.specs.Sound.{Sound};
 ghost use Rattle.layout.specs.Puts.{part};
-ghost use Rattle.layout.specs.PlanTable.{wordsAt};
+ghost use Rattle.layout.specs.PlanTable.{planIn, wordsAt};
 ghost use Rattle.model.specs.Working.{opening};
-ghost use Rattle.model.specs.Machine.{openingOf};
+ghost use Rattle.model.specs.Machine.{openingOf, openingStore};
+ghost use Rattle.opening.specs.Store.{emptyStore};
 use format::Sizes;
 use layout::PLAN_PLACES;
 use model::Cells;
@@ -110,7 +112,7 @@ pub fn cells(sizes: Sizes) -> Cells
 }
 
 // The first n opening words are put into the store, from a place on.
-pub fn put_words(store: &mut [u32], at: usize, plan: &[u32; PLAN_PLACES], n: usize)
+fn put_words(store: &mut [u32], at: usize, plan: &[u32; PLAN_PLACES], n: usize)
     requires { ⌜ (at + n ≤ length (now store)) × (n ≤ 256) ⌝ }
     ensures { λ _. ⌜ now (store .exit)
         ≡ paste (now (store .entry)) at (part (now (plan .entry)) wordsAt n) n ⌝ }
@@ -120,4 +122,15 @@ pub fn put_words(store: &mut [u32], at: usize, plan: &[u32; PLAN_PLACES], n: usi
         store[at + i] = layout::word(plan, i);
         i += 1;
     }
+}
+
+// The opening memory is put into the store, behind the copy blocks.
+pub fn open_store(plan: &[u32; PLAN_PLACES], store: &mut [u32])
+    requires { ⌜ Sound (planIn (now plan)) × (now store ≡ emptyStore) ⌝ }
+    ensures { λ _. ⌜ now (store .exit) ≡ openingStore (planIn (now (plan .entry))) ⌝ }
+{
+    let sizes = layout::sizes(plan);
+    let memory = sizes.blocks * sizes.words;
+    let start = sizes.jobs * sizes.copies * sizes.words;
+    put_words(store, start, plan, memory);
 }

@@ -1,32 +1,25 @@
-// A plan's text with a schedule of records: what comes before the records run, their run, and what comes after it.
+// A plan's text with a schedule of records: what comes before the records run, and their run.
 ghost use mathlib.Core.Path.{_≡_};
 ghost use mathlib.Core.List.{List};
-ghost use Prim.Native.Nat.{ℕ, _+_, _≤_};
+ghost use Prim.Native.Nat.{ℕ, _≤_};
 ghost use lib.ListN.{length};
 ghost use Rattle.format.specs.Plan.{Plan};
 ghost use Rattle.layout.specs.PlanTable.{emptyPlan};
 ghost use Rattle.layout.specs.EntryTable.{entryPlaces};
-ghost use Rattle.runs.specs.Runs.{endOf, runSchedule, left};
-ghost use Rattle.running.specs.Schedules.{Begun as Opens, refusalOf};
-ghost use Rattle.text_run.specs.Finishing.{WrittenOut, emptyStore};
-ghost use Rattle.reference.specs.Answers.{endedOf};
+ghost use Rattle.opening.specs.Store.{emptyStore};
+ghost use Rattle.running.specs.Schedules.{Begun as Opens};
 ghost use Rattle.record_run.specs.Records.{toRun, BegunIs, Ready, Closing};
 use format::Entry;
-use format::Fault;
 use format::Form;
 use format::Sizes;
 use format::Verdict;
 use layout::ENTRY_PLACES;
 use layout::PLAN_PLACES;
 use plan_arrays::PlanArrays;
-use reference::Ended;
-use running::Halt;
-use runs::End;
 use schedule::Walk;
-use text_run::Finished;
 
 // The most records that a schedule has.
-const MOST: usize = 4000;
+pub const MOST: usize = 4000;
 
 // What a plan's text and the count of the records come to before any record runs: the verdict on the text, the arrays
 // of the plan, how many records run, and the run at its opening.
@@ -93,7 +86,7 @@ fn begin_lent(
         }
         Verdict::Accepted(lines) => {
             let sizes = plan.sizes;
-            text_run::open_store(table, store);
+            opening::open_store(table, store);
             let walk = walk_from(sizes);
             let n = to_run(count);
             Begun {
@@ -163,79 +156,4 @@ pub fn run_begun<'e, 'b>(
         new,
         commits,
     )
-}
-
-// How a run of records ends: by the refusal of the record behind those accepted, or accepted with their count.
-fn end_of(halt: Halt, accepted: usize, count: usize) -> End
-    requires { ⌜ accepted ≤ 4000 ⌝ }
-    ensures { λ r. ⌜ r ≡ endOf (refusalOf halt) (accepted + 1) count ⌝ }
-{
-    match halt {
-        Halt::Going => End::Accepted(count),
-        Halt::Refused(r) => End::Refused(r, accepted + 1),
-    }
-}
-
-// The report is written, unless the text or the records are refused.
-fn report_of(
-    verdict: Verdict,
-    count: usize,
-    sizes: Sizes,
-    walk: Walk,
-    store: &[u32],
-    commits: &[[u32; 3]; 4000],
-    buffer: &mut [u8],
-) -> Finished
-    requires { ⌜ ((text : List ℕ) × (es : List Entry)
-        × Closing text es verdict count sizes walk (now store) (now commits)) ⌝ }
-    ensures { λ r. ⌜ ((text : List ℕ) (es : List Entry)
-        → Closing text es verdict count sizes walk (now (store .entry)) (now (commits .entry))
-        → WrittenOut (runSchedule text es) (now (buffer .entry)) r (now (buffer .exit))) ⌝ }
-{
-    if let Verdict::Refused(fault, line) = verdict {
-        return Finished {
-            end: End::Faulty(fault, line),
-            length: 0,
-        };
-    }
-    if count > MOST {
-        return Finished {
-            end: End::Faulty(Fault::TooMany, MOST + 1),
-            length: 0,
-        };
-    }
-    let other = walk.other;
-    if other > 0 {
-        return Finished {
-            end: End::Faulty(Fault::Misplaced, other),
-            length: 0,
-        };
-    }
-    let progress = walk.progress;
-    let halt = progress.halt;
-    let state = progress.state;
-    let end = end_of(halt, state.entries, count);
-    let ran = running::ran_of(progress, end);
-    text_run::finish(buffer, sizes, ran, store, commits)
-}
-
-// What is answered when the records have run.
-pub fn finish(
-    verdict: Verdict,
-    count: usize,
-    sizes: Sizes,
-    walk: Walk,
-    store: &[u32],
-    commits: &[[u32; 3]; 4000],
-    buffer: &mut [u8],
-) -> Ended
-    requires { ⌜ ((text : List ℕ) × (es : List Entry)
-        × Closing text es verdict count sizes walk (now store) (now commits)) ⌝ }
-    ensures { λ r. ⌜ ((text : List ℕ) (es : List Entry)
-        → Closing text es verdict count sizes walk (now (store .entry)) (now (commits .entry))
-        → (r ≡ endedOf (runSchedule text es) (now (buffer .entry)))
-        × (now (buffer .exit) ≡ left (runSchedule text es) (now (buffer .entry)))) ⌝ }
-{
-    let finished = report_of(verdict, count, sizes, walk, store, commits, buffer);
-    reference::ended_of(finished)
 }

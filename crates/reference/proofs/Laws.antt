@@ -4,8 +4,8 @@ use mathlib.Core.Path.{_≡_}
 use mathlib.Core.List.{List}
 use Rattle.runs.specs.Report.{endNumber, endLine}
 use Rattle.runs.specs.Runs.{Outcome}
-use Rattle.text_run.specs.declared.Finished.{Finished}
-use Rattle.text_run.specs.Finishing.{WrittenOut}
+use Rattle.ending.specs.declared.Finished.{Finished}
+use Rattle.ending.specs.Finishing.{WrittenOut}
 use Rattle.reference.specs.Answers.{endedBy, endedOf}
 
 -- Its number, line and length.

@@ -7,7 +7,7 @@ use Rattle.format.specs.declared.Verdict.{Verdict}
 use Rattle.format.specs.Faults.{numberOf}
 use Rattle.runs.specs.Report.{endNumber, endLine}
 use Rattle.runs.specs.Runs.{Outcome, ended, handed}
-use Rattle.text_run.specs.declared.Finished.{Finished}
+use Rattle.ending.specs.declared.Finished.{Finished}
 use Rattle.reference.specs.declared.Answer.{Answer}
 use Rattle.reference.specs.declared.Ended.{Ended}
 

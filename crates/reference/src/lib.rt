@@ -4,11 +4,11 @@ ghost use Rattle.format.specs.Reading.{reading, verdictOf};
 ghost use Rattle.runs.specs.Runs.{runText, handed, left};
 ghost use Rattle.reference.specs.Answers.{answerOf, endedBy, endedOf};
 ghost use denote.Ref.{ptr};
+use ending::Finished;
 use format::Form;
 use format::Verdict;
 use layout::ENTRY_PLACES;
 use layout::PLAN_PLACES;
-use text_run::Finished;
 
 // A number of the table with its line: 0 with the count of all lines, or a refusal with the line where it was met.
 #[repr(C)]
@@ -37,7 +37,7 @@ pub fn answer_of(verdict: Verdict) -> Answer
             line: lines,
         },
         Verdict::Refused(fault, line) => Answer {
-            number: text_run::fault_number(fault),
+            number: ending::fault_number(fault),
             line,
         },
     }
@@ -57,8 +57,8 @@ pub fn ended_of(finished: Finished) -> Ended
 {
     let end = finished.end;
     Ended {
-        number: text_run::end_number(end),
-        line: text_run::end_line(end),
+        number: ending::end_number(end),
+        line: ending::end_line(end),
         length: finished.length,
     }
 }

@@ -1,4 +1,2 @@
--- Laws that the proofs of this crate cite.
+-- The law that the proofs of this crate cite.
 pub mod Fitting
-pub mod Parts
-pub mod Statuses

@@ -1,16 +1,17 @@
 -- Lines and fields by their places in a text: the form in which the program reads them, one pass from left to right.
 -- proofs/Lines.antt ties these to the definitions of Lines. Assumes nothing.
 use Prim.Native.Nat.{ℕ, suc, _+_, _*_, _-_}
-use mathlib.Core.Bool.{cond}
+use mathlib.Core.Bool.{true, false, cond}
 use mathlib.Core.List.{List, [], _∷_}
 use mathlib.Core.Option.{Option, none, some}
 use lib.Dec.{ltb, eqb}
-use lib.ListN.{length, take, drop}
+use lib.ListN.{length, getD, take, drop}
 use Rattle.text.specs.Numbers.{number, largest}
 use Rattle.text.specs.Lines.{split}
 use Rattle.text.specs.declared.Number.{Number}
 use Rattle.text.specs.declared.Field.{Field}
 use Rattle.text.specs.declared.Numbers.{Numbers}
+use Rattle.text.specs.declared.Three.{Three}
 
 -- How many bytes of s stand before its first byte x.
 abbrev pub before : ℕ → List ℕ → ℕ
@@ -40,6 +41,11 @@ fieldAt line at =
 abbrev pub readInto : Numbers → List ℕ → Option (List ℕ)
 readInto Numbers.Read ns = some ns
 readInto Numbers.Bad ns = none
+
+-- Numbers, where they could be read, as the numbers of a line that has at most three.
+abbrev pub asThree : Option (List ℕ) → Three
+asThree none = record { read = false; first = 0; second = 0; third = 0 }
+asThree (some ns) = record { read = true; first = getD ns 0 0; second = getD ns 1 0; third = getD ns 2 0 }
 
 -- What the digits s are worth after digits that are worth n, judged from left to right.
 abbrev pub scanned : ℕ → List ℕ → Number

@@ -5,7 +5,7 @@ ghost use Prim.Native.Nat.{_≤_, _+_};
 ghost use lib.ListN.{length};
 ghost use Rattle.text.specs.Numbers.{number};
 ghost use Rattle.text.specs.Lines.{numbers};
-ghost use Rattle.text.specs.Places.{placeOf, fieldAt, fieldsAt, readInto, scanned};
+ghost use Rattle.text.specs.Places.{placeOf, fieldAt, fieldsAt, readInto, asThree, scanned};
 
 // What a field holds.
 pub enum Number {
@@ -23,6 +23,14 @@ pub enum Field {
 pub enum Numbers {
     Read,
     Bad,
+}
+
+// The numbers of a line that has at most three, 0 for those that it has not, and whether they could be read.
+pub struct Three {
+    pub read: bool,
+    pub first: u32,
+    pub second: u32,
+    pub third: u32,
 }
 
 // The place of the first byte x of s at or after a place, or s's length where there is none.
@@ -118,4 +126,26 @@ pub fn read_numbers(line: &[u8], from: usize, out: &mut [u32]) -> Numbers
         return Numbers::Read;
     }
     Numbers::Bad
+}
+
+// The numbers of the fields from a place of a line on, where they are as many as is said, at most three.
+pub fn three_at(line: &[u8], from: usize, count: usize) -> Three
+    requires { ⌜ (from ≤ length (now line) + 1) × (count ≤ 3) ⌝ }
+    ensures { λ r. ⌜ r ≡ asThree (numbers count (fieldsAt (now (line .entry)) from)) ⌝ }
+{
+    let mut n = [0u32; 3];
+    let Numbers::Read = read_numbers(line, from, &mut n[..count]) else {
+        return Three {
+            read: false,
+            first: 0,
+            second: 0,
+            third: 0,
+        };
+    };
+    Three {
+        read: true,
+        first: n[0],
+        second: n[1],
+        third: n[2],
+    }
 }

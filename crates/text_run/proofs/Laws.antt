@@ -1,15 +1,9 @@
--- What running an accepted text asks and gives, and what is written from the parts that the code keeps is the report of
--- the definitions. Assumes nothing.
-use Prim.Native.Nat.{ℕ, _+_, _*_, _≤_}
-use mathlib.Core.Path.{_≡_, refl, sym, _∙_, ap, subst}
-use mathlib.Core.Bool.{Bool, true, false, cond}
+-- What running an accepted text asks and gives. Assumes nothing.
+use Prim.Native.Nat.{ℕ, _≤_}
+use mathlib.Core.Path.{_≡_, refl, sym, ap, subst}
 use mathlib.Core.List.{List}
 use mathlib.Core.Option.{Option, none, some}
-use native.Mathlib.Nat.{mul-le-mul}
-use native.Mathlib.Omega.{arith}
-use lib.Dec.{leb}
-use lib.ListN.{length, length-replicate}
-use Rattle.format.specs.declared.Sizes.{Sizes}
+use lib.ListN.{length}
 use Rattle.format.specs.declared.Fault.{Fault}
 use Rattle.format.specs.declared.Form.{Form}
 use Rattle.format.specs.Sound.{Sound}
@@ -23,33 +17,12 @@ use Rattle.model.specs.Machine.{openingStore}
 use Rattle.model.specs.History.{Run, runOf}
 use Rattle.runs.specs.declared.End.{End}
 use Rattle.runs.specs.Report.{endLine}
-use Rattle.runs.specs.Runs.{Outcome, reported, left, endOf, outcomeOf, lineIn, ofReading, runText}
-use Rattle.report.specs.declared.Written.{Written}
-use Rattle.report.specs.Writing.{IsWritten}
+use Rattle.runs.specs.Runs.{left, endOf, outcomeOf, lineIn, ofReading, runText}
 use Rattle.running.specs.Schedules.{entriesIn, emptyRows, Lent, Starts}
 use Rattle.text_entries.proofs.Text.{entries-many}
-use Rattle.text_run.specs.declared.Finished.{Finished}
-use Rattle.text_run.specs.Finishing.{Reads, WrittenOut, emptyStore}
-
--- The sizes' products are small: the memory has at most 256 words, and it fits the store behind the copy blocks.
-pub products : (s : Sizes) → s .jobs ≤ 16 → s .copies ≤ 8 → s .blocks ≤ 16 → s .words ≤ 16
-    → (s .blocks * s .words ≤ 256)
-    × ((s .jobs * s .copies ≤ 128) × (s .jobs * s .copies * s .words + s .blocks * s .words ≤ 2304))
-products s j c b w =
-    let m : s .blocks * s .words ≤ 16 * 16 = mul-le-mul b w in
-    let n : s .jobs * s .copies ≤ 16 * 8 = mul-le-mul j c in
-    let k : s .jobs * s .copies * s .words ≤ 16 * 8 * 16 = mul-le-mul n w in
-    (omega arith, (omega arith, omega arith))
-
--- The store has 2,304 words.
-pub empty-length : length emptyStore ≡ 2304
-unfolding emptyStore
-empty-length = length-replicate {A = ℕ} 2304 0
-
--- The same outcome is written out alike.
-pub same-outcome : {o o′ : Outcome} {before after : List ℕ} {r : Finished} → o ≡ o′ → WrittenOut o before r after
-    → WrittenOut o′ before r after
-same-outcome {before = before} {after = after} {r = r} e w = subst (λ x. WrittenOut x before r after) e w
+use Rattle.ending.specs.Finishing.{WrittenOut}
+use Rattle.ending.proofs.Written.{same-outcome}
+use Rattle.text_run.specs.Reads.{Reads}
 
 -- A refused text leaves the buffer as it was.
 pub refused-out : (text before : List ℕ) (f : Fault) (n : ℕ) → refusal f n ≡ reading Form.Schedule text
@@ -57,59 +30,6 @@ pub refused-out : (text before : List ℕ) (f : Fault) (n : ℕ) → refusal f n
 unfolding runText left
 refused-out text before f n e =
     same-outcome (ap ofReading e) (record { end-is = refl; length-is = refl; left-is = refl })
-
--- A report that fits is written whole, and no other is written.
-module _ (e : End) (whole before after : List ℕ) where
-  -- By whether it fits.
-  written-by : (b : Bool) → leb (length whole) (length before) ≡ b → (w : Written) → IsWritten whole before w after
-      → w ≡ cond b (Written.Whole (length whole)) Written.NoRoom
-      → (r : Finished) → r ≡ cond b (record { end = e; length = length whole }) (record {
-        end = End.NoRoom;
-        length = 0;
-      })
-      → WrittenOut (reported e whole) before r after
-  unfolding left
-  written-by true t w is a r re =
-      record {
-        end-is = ap (λ (x : Finished). x .end) re ∙ rw t;
-        length-is = ap (λ (x : Finished). x .length) re ∙ rw t;
-        left-is = is .after-is ∙ rw t;
-      }
-  written-by false t w is a r re =
-      record {
-        end-is = ap (λ (x : Finished). x .end) re ∙ rw t;
-        length-is = ap (λ (x : Finished). x .length) re ∙ rw t;
-        left-is = is .after-is ∙ rw t;
-      }
-
-  -- It was written.
-  pub written-whole : (n : ℕ) (w : Written) → IsWritten whole before w after → w ≡ Written.Whole n
-      → WrittenOut (reported e whole) before (record { end = e; length = n }) after
-  written-whole n w is told = go (leb (length whole) (length before)) refl
-    where
-      go : (b : Bool) → leb (length whole) (length before) ≡ b
-          → WrittenOut (reported e whole) before (record { end = e; length = n }) after
-      go true t =
-          let same : Written.Whole n ≡ Written.Whole (length whole) = sym told ∙ is .answer-is ∙ rw t in
-          let l : n ≡ length whole = cc in
-          written-by true t _ is (told ∙ same) _ (ap (λ k. record { end = e; length = k }) l)
-      go false t =
-          let same : Written.Whole n ≡ Written.NoRoom = sym told ∙ is .answer-is ∙ rw t in
-          let z : _≡_ {A = ℕ} 0 1 = cc in
-          absurd (omega arith)
-
-  -- It was not.
-  pub written-none : (w : Written) → IsWritten whole before w after → w ≡ Written.NoRoom
-      → WrittenOut (reported e whole) before (record { end = End.NoRoom; length = 0 }) after
-  written-none w is told = go (leb (length whole) (length before)) refl
-    where
-      go : (b : Bool) → leb (length whole) (length before) ≡ b
-          → WrittenOut (reported e whole) before (record { end = End.NoRoom; length = 0 }) after
-      go true t =
-          let same : Written.NoRoom ≡ Written.Whole (length whole) = sym told ∙ is .answer-is ∙ rw t in
-          let z : _≡_ {A = ℕ} 0 1 = cc in
-          absurd (omega arith)
-      go false t = written-by false t _ is (is .answer-is ∙ rw t) _ refl
 
 module _ (text plan entries : List ℕ) (count lines : ℕ) (read : Reads text plan entries count lines) where
   -- The plan is sound.

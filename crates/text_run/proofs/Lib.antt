@@ -1,3 +1,2 @@
--- The laws of a whole text's run.
-pub mod Outcome
+-- The laws of running a text.
 pub mod Laws

@@ -1,2 +1,2 @@
--- What a run of a text came to.
-pub mod Finishing
+-- What the functions that run a text ask.
+pub mod Reads

@@ -9,32 +9,21 @@
 ghost use Prim.Native.Nat.{_+_, _≤_, _<_};
 ghost use lib.ListN.{length};
 ghost use Rattle.cases.specs.Places.{Placed};
+use agreement::Ending;
 use cases::Next;
 use cases::Parts;
 use cases::RECORDS;
 use cases::Records;
 use cases::Room;
 use format::Entry;
-use format::Form;
-use libc::STDOUT_FILENO;
 use reference::Answer;
 use reference::Ended;
-use text::Number;
 
 // More bytes than the largest pack has.
 const ROOM: usize = 1400000;
 
 // Room for the longest report: up to 4,000 commit lines of 18 bytes, 16 block lines of 182, 16 open lines and the end.
 const REPORT: usize = 80000;
-
-// What every byte of the buffer is before a run.
-const MARKER: u8 = 170;
-
-// What the last line of a case's output says.
-enum Ending {
-    Read(Answer),
-    Malformed,
-}
 
 // Whether the check's answer and the run's output are what a case says.
 struct Agreed {
@@ -49,117 +38,6 @@ enum Outcome {
     Malformed,
 }
 
-// The number and line that a line `end n l` gives.
-fn read_ending(line: &[u8]) -> Ending {
-    if cases::count(line, b'\t') != 2 {
-        return Ending::Malformed;
-    }
-    if !check::same(cases::word(line, b'\t', 0), b"end") {
-        return Ending::Malformed;
-    }
-    let Number::Value(number) = text::number_of(cases::word(line, b'\t', 1)) else {
-        return Ending::Malformed;
-    };
-    let Number::Value(place) = text::number_of(cases::word(line, b'\t', 2)) else {
-        return Ending::Malformed;
-    };
-    Ending::Read(Answer {
-        number: number as usize,
-        line: place as usize,
-    })
-}
-
-// What a case says of the check of its text: an output that ends in n from 1 to 10 says that it is refused by n, and
-// every other that it is accepted.
-fn wanted(text: &[u8], end: Answer) -> Answer {
-    let accepted = Answer {
-        number: 0,
-        line: cases::count(text, b'\n'),
-    };
-    if end.number < 1 {
-        return accepted;
-    }
-    if end.number > 10 {
-        return accepted;
-    }
-    end
-}
-
-// Writes bytes to standard output.
-fn print(bytes: &[u8]) {
-    io::write_all(STDOUT_FILENO, bytes);
-}
-
-// Writes a number to standard output.
-fn print_number(number: usize) {
-    io::print_decimal(STDOUT_FILENO, number as u64);
-}
-
-// Writes an answer, its number and its line.
-fn print_answer(answer: Answer) {
-    print_number(answer.number);
-    print(b" ");
-    print_number(answer.line);
-}
-
-// Writes bytes, and bytes behind them.
-fn print_both(first: &[u8], second: &[u8]) {
-    print(first);
-    print(second);
-}
-
-// Writes the names of a pack and of a case.
-fn print_names(pack_name: &[u8], case_name: &[u8]) {
-    print_both(pack_name, b": ");
-    print_both(case_name, b": ");
-}
-
-// Writes the answer to a case, and the one that is wanted.
-fn print_difference(got: Answer, want: Answer) {
-    print(b"got ");
-    print_answer(got);
-    print(b", wanted ");
-    print_answer(want);
-    print(b"\n");
-}
-
-// Writes the first line of a report that is not the one that is wanted, and the one that is.
-fn print_lines(report: &[u8], output: &[u8]) {
-    let before = cases::same_lines(report, output);
-    print_both(b"report: got ", cases::word(report, b'\n', before));
-    print_both(b", wanted ", cases::word(output, b'\n', before));
-    print(b"\n");
-}
-
-// Whether two answers are the same.
-fn same_answer(got: Answer, want: Answer) -> bool {
-    if got.number != want.number {
-        return false;
-    }
-    got.line == want.line
-}
-
-// Checks the text of a case, and writes a line where the answer is not what is wanted.
-fn check_case(pack_name: &[u8], case_name: &[u8], text: &[u8], end: Answer) -> bool {
-    let got = reference::answer_of(reference::check(text, Form::Schedule));
-    let want = wanted(text, end);
-    if same_answer(got, want) {
-        return true;
-    }
-    print_names(pack_name, case_name);
-    print(b"check: ");
-    print_difference(got, want);
-    false
-}
-
-// Runs a text, with n bytes lent for the report.
-fn run_text(text: &[u8], room: &mut [u8], n: usize) -> Ended
-    requires { ⌜ n ≤ length (now room) ⌝ }
-    ensures { λ r. ⌜ r .length ≤ n ⌝ }
-{
-    reference::run(text, &mut room[..n])
-}
-
 // Runs a plan's text with the first records of some, with n bytes lent for the report.
 fn run_schedule(
     text: &[u8],
@@ -172,85 +50,6 @@ fn run_schedule(
     ensures { λ r. ⌜ r .length ≤ n ⌝ }
 {
     record_array::run_first(text, entries, count, &mut room[..n])
-}
-
-// Whether the bytes from a place on are all as before the run.
-fn kept(bytes: &[u8], from: usize) -> bool
-    requires { ⌜ from ≤ length (now bytes) ⌝ }
-{
-    cases::count(&bytes[from..], MARKER) == bytes.len() - from
-}
-
-// Whether a report is the one that is wanted. Writes a line where it is not.
-fn compare_report(pack_name: &[u8], case_name: &[u8], report: &[u8], output: &[u8]) -> bool {
-    if check::same(report, cases::wanted_report(output)) {
-        return true;
-    }
-    print_names(pack_name, case_name);
-    print_lines(report, output);
-    false
-}
-
-// Whether a run ended as is wanted, and left the bytes past its report as they were. Writes a line where not.
-fn compare_end(
-    pack_name: &[u8],
-    case_name: &[u8],
-    got: Answer,
-    end: Answer,
-    is_kept: bool,
-) -> bool {
-    if !same_answer(got, end) {
-        print_names(pack_name, case_name);
-        print(b"run: ");
-        print_difference(got, end);
-        return false;
-    }
-    if !is_kept {
-        print_names(pack_name, case_name);
-        print(b"run: bytes past the report were written\n");
-        return false;
-    }
-    true
-}
-
-// Whether a run ended with the output that is wanted, and wrote nothing past its report. Writes a line where not.
-fn compare_run(
-    pack_name: &[u8],
-    case_name: &[u8],
-    output: &[u8],
-    end: Answer,
-    ended: Ended,
-    room: &[u8],
-) -> bool
-    requires { ⌜ ended .length ≤ length (now room) ⌝ }
-{
-    let written = ended.length;
-    let got = Answer {
-        number: ended.number,
-        line: ended.line,
-    };
-    let is_kept = kept(room, written);
-    if !compare_end(pack_name, case_name, got, end, is_kept) {
-        return false;
-    }
-    compare_report(pack_name, case_name, &room[..written], output)
-}
-
-// Runs the text of a case with n bytes lent, and compares.
-fn try_case(
-    pack_name: &[u8],
-    case_name: &[u8],
-    text: &[u8],
-    output: &[u8],
-    end: Answer,
-    room: &mut [u8],
-    n: usize,
-) -> bool
-    requires { ⌜ n ≤ length (now room) ⌝ }
-{
-    cases::fill(room, MARKER);
-    let ended = run_text(text, room, n);
-    compare_run(pack_name, case_name, output, end, ended, room)
 }
 
 // Runs the plan's text of a case with its records, with n bytes lent, and compares.
@@ -274,9 +73,9 @@ fn try_schedule(
         return Outcome::Malformed;
     }
     let entries = records.entries;
-    cases::fill(room, MARKER);
+    cases::fill(room, agreement::MARKER);
     let ended = run_schedule(text, entries, count, room, n);
-    let agrees = compare_run(pack_name, case_name, output, end, ended, room);
+    let agrees = agreement::compare_run(pack_name, case_name, output, end, ended, room);
     Outcome::Scheduled(agrees)
 }
 
@@ -295,7 +94,7 @@ fn run_case(
     if n > room.len() {
         return Outcome::Malformed;
     }
-    let Ending::Read(end) = read_ending(cases::last_line(output)) else {
+    let Ending::Read(end) = agreement::read_ending(cases::last_line(output)) else {
         return Outcome::Malformed;
     };
     let case_name = cases::word(header, b' ', 1);
@@ -307,8 +106,8 @@ fn run_case(
     if !check::same(kind, b"run") {
         return Outcome::Malformed;
     }
-    let checked = check_case(pack_name, case_name, text, end);
-    let ran = try_case(pack_name, case_name, text, output, end, room, n);
+    let checked = agreement::check_case(pack_name, case_name, text, end);
+    let ran = agreement::try_case(pack_name, case_name, text, output, end, room, n);
     Outcome::Ran(Agreed {
         check: checked,
         run: ran,
@@ -334,40 +133,6 @@ fn run_at(pack_name: &[u8], pack: &[u8], at: usize, parts: Parts, room: &mut [u8
     )
 }
 
-// Writes a number, and bytes behind it.
-fn print_counted(number: usize, bytes: &[u8]) {
-    print_number(number);
-    print(bytes);
-}
-
-// Writes that a pack cannot be read.
-fn print_malformed(name: &[u8]) {
-    print_both(name, b": malformed\n");
-}
-
-// Writes how many texts of a pack were run and how many of them agree in their check and in their run; and the same of
-// its schedules, where it has any.
-fn print_total(
-    name: &[u8],
-    checks: usize,
-    runs: usize,
-    run: usize,
-    schedules: usize,
-    scheduled: usize,
-) {
-    print_both(name, b": ");
-    print_counted(checks, b" of ");
-    print_counted(run, b" checks agree, ");
-    print_counted(runs, b" of ");
-    print_counted(run, b" runs agree");
-    if scheduled > 0 {
-        print(b", ");
-        print_counted(schedules, b" of ");
-        print_counted(scheduled, b" schedules agree");
-    }
-    print(b"\n");
-}
-
 // A count with one more where a case agrees.
 fn counted(count: usize, agrees: bool) -> usize
     requires { ⌜ count < 18446744073709551615 ⌝ }
@@ -389,7 +154,7 @@ fn run_pack(name: &[u8], pack: &[u8], room: &mut [u8]) {
     let mut at = 0;
     while at < pack.len() {
         let Next::Case(parts) = cases::next_case(pack, at) else {
-            print_malformed(name);
+            agreement::print_malformed(name);
             return;
         };
         match run_at(name, pack, at, parts, room) {
@@ -403,13 +168,13 @@ fn run_pack(name: &[u8], pack: &[u8], room: &mut [u8]) {
                 scheduled += 1;
             }
             Outcome::Malformed => {
-                print_malformed(name);
+                agreement::print_malformed(name);
                 return;
             }
         }
         at = parts.output;
     }
-    print_total(name, checks, runs, run, schedules, scheduled);
+    agreement::print_total(name, checks, runs, run, schedules, scheduled);
 }
 
 // Reads a pack into the bytes lent for it, and runs it. One that fills them all may go on past them: it is not run.
@@ -422,7 +187,7 @@ fn run_file(name: &[u8], bytes: &mut [u8], room: &mut [u8]) {
     let length = io::read_full(descriptor, bytes);
     libc::close(descriptor);
     if length == bytes.len() {
-        print_malformed(name);
+        agreement::print_malformed(name);
         return;
     }
     run_pack(name, &bytes[..length], room);

@@ -59,7 +59,7 @@ use Rattle.runs.specs.Runs.{runSchedule, left}
 use Rattle.schedule.specs.declared.Walk.{Walk}
 use Rattle.schedule.proofs.Walk as K
 use Rattle.schedule.proofs.Walk.Laws as K′
-use Rattle.text_run.specs.Finishing.{emptyStore}
+use Rattle.opening.specs.Store.{emptyStore}
 use Rattle.record_run.specs.declared.Begun.{Begun}
 use Rattle.record_run.specs.Records.{BegunIs, Ready, Closing}
 use Rattle.record_run.proofs.Begun as B
@@ -76,13 +76,13 @@ use Rattle.record_run.proofs.run_begun as begun
 use Rattle.record_run.proofs.run_begun.Symbol as begun-def
 use Rattle.record_run.proofs.run_begun.Symbol.{name as #run-begun}
 use Rattle.record_run.proofs.run_begun.Met as begun-thm
-use Rattle.record_run.proofs.finish as finish
-use Rattle.record_run.proofs.finish.Symbol as finish-def
-use Rattle.record_run.proofs.finish.Symbol.{name as #finish}
-use Rattle.record_run.proofs.finish.Met as finish-thm
+use Rattle.record_end.proofs.finish as finish
+use Rattle.record_end.proofs.finish.Symbol as finish-def
+use Rattle.record_end.proofs.finish.Symbol.{name as #finish}
+use Rattle.record_end.proofs.finish.Met as finish-thm
 use Rattle.library.proofs.point_memory_run_schedule.Code.{calls-record-run·begin as calls-begin}
 use Rattle.library.proofs.point_memory_run_schedule.Code.{calls-record-run·run-begun as calls-run-begun}
-use Rattle.library.proofs.point_memory_run_schedule.Code.{calls-record-run·finish as calls-finish}
+use Rattle.library.proofs.point_memory_run_schedule.Code.{calls-record-end·finish as calls-finish}
 use Rattle.walks.proofs.Spots.{Held, unset, has, spots, locals, sink}
 use Rattle.walks.proofs.Short.{var, arg, sets, leave}
 use Rattle.walks.proofs.Told.{all-told, all-fit, all-go}

@@ -1,6 +1,9 @@
 -- `read_kind` hands each kind to its own function. Assumes nothing.
+use mathlib.Core.Path.{refl}
 use Rattle.format.specs.declared.Kind.{Kind}
-use Rattle.one_line.proofs.Arms.{at-kind, at-item, at-unknown, standing-at}
+use Rattle.format.specs.declared.Move.{Move}
+use Rattle.format.specs.Items.{move, entry}
+use Rattle.one_line.proofs.Arms.{at-kind, at-three, at-unknown, standing-at}
 use borrow.Author.Needs.{needs}
 use Rattle.one_line.proofs.read_kind.Statement.{statement}
 use Rattle.one_line.proofs.read_kind.Tie as tie
@@ -50,8 +53,8 @@ update-line-requires c κs =
 enum-told-5 : tie.Need-enum-told-5
 enum-told-5 c = search needs
 
-copy-of-requires : tie.Need-copy-of-requires
-copy-of-requires c κs = search needs
+three-at-requires : tie.Need-three-at-requires
+three-at-requires c κs = search needs
 
 move-line-requires : tie.Need-move-line-requires
 move-line-requires c κs =
@@ -63,8 +66,8 @@ move-line-requires c κs =
 enum-told-6 : tie.Need-enum-told-6
 enum-told-6 c = search needs
 
-set-of-requires : tie.Need-set-of-requires
-set-of-requires c κs = search needs
+three-at-requires-2 : tie.Need-three-at-requires-2
+three-at-requires-2 c κs = search needs
 
 move-line-requires-2 : tie.Need-move-line-requires-2
 move-line-requires-2 c κs =
@@ -76,8 +79,8 @@ move-line-requires-2 c κs =
 enum-told-7 : tie.Need-enum-told-7
 enum-told-7 c = search needs
 
-add-of-requires : tie.Need-add-of-requires
-add-of-requires c κs = search needs
+three-at-requires-3 : tie.Need-three-at-requires-3
+three-at-requires-3 c κs = search needs
 
 move-line-requires-3 : tie.Need-move-line-requires-3
 move-line-requires-3 c κs =
@@ -89,8 +92,8 @@ move-line-requires-3 c κs =
 enum-told-8 : tie.Need-enum-told-8
 enum-told-8 c = search needs
 
-call-of-requires : tie.Need-call-of-requires
-call-of-requires c κs = search needs
+three-at-requires-4 : tie.Need-three-at-requires-4
+three-at-requires-4 c κs = search needs
 
 entry-line-requires : tie.Need-entry-line-requires
 entry-line-requires c κs =
@@ -100,8 +103,8 @@ entry-line-requires c κs =
 enum-told-9 : tie.Need-enum-told-9
 enum-told-9 c = search needs
 
-step-of-requires : tie.Need-step-of-requires
-step-of-requires c κs = search needs
+three-at-requires-5 : tie.Need-three-at-requires-5
+three-at-requires-5 c κs = search needs
 
 entry-line-requires-2 : tie.Need-entry-line-requires-2
 entry-line-requires-2 c κs =
@@ -111,8 +114,8 @@ entry-line-requires-2 c κs =
 enum-told-10 : tie.Need-enum-told-10
 enum-told-10 c = search needs
 
-add-t23 : tie.Need-add-t23
-add-t23 c = search needs
+add-t28 : tie.Need-add-t28
+add-t28 c = search needs
 
 returns : tie.Need-returns
 returns c =
@@ -133,34 +136,47 @@ returns-4 c =
 returns-5 : tie.Need-returns-5
 returns-5 c =
     let o = c .before .before in
-    at-kind _ Kind.Copy _ _ _ _ _ _ (o .before .enum-told5 .given .1)
-    (at-item Kind.Copy _ _ _ _ _ _ (o .copy-of .ensures) (c .move-line .ensures Kind.Copy _))
+    at-three _ Kind.Copy _ _ _ _ _ _ (o .before .enum-told5 .given .1)
+    (λ n. move (Move.Copy (n .first) (n .second))) (λ ns. refl)
+    (o .three-at .result)
+    (o .three-at .ensures)
+    (c .move-line .ensures Kind.Copy _)
 
 returns-6 : tie.Need-returns-6
 returns-6 c =
     let o = c .before .before in
-    at-kind _ Kind.Set _ _ _ _ _ _ (o .before .enum-told6 .given .1)
-    (at-item Kind.Set _ _ _ _ _ _ (o .set-of .ensures) (c .move-line2 .ensures Kind.Set _))
+    at-three _ Kind.Set _ _ _ _ _ _ (o .before .enum-told6 .given .1)
+    (λ n. move (Move.Set (n .first) (n .second))) (λ ns. refl)
+    (o .three-at2 .result)
+    (o .three-at2 .ensures)
+    (c .move-line2 .ensures Kind.Set _)
 
 returns-7 : tie.Need-returns-7
 returns-7 c =
     let o = c .before .before in
-    at-kind _ Kind.Add _ _ _ _ _ _ (o .before .enum-told7 .given .1)
-    (at-item Kind.Add _ _ _ _ _ _ (o .add-of .ensures) (c .move-line3 .ensures Kind.Add _))
+    at-three _ Kind.Add _ _ _ _ _ _ (o .before .enum-told7 .given .1)
+    (λ n. move (Move.Add (n .first) (n .second) (n .third))) (λ ns. refl)
+    (o .three-at3 .result)
+    (o .three-at3 .ensures)
+    (c .move-line3 .ensures Kind.Add _)
 
 returns-8 : tie.Need-returns-8
 returns-8 c =
     let o = c .before .before in
-    at-kind _ Kind.Call _ _ _ _ _ _ (o .before .enum-told8 .given .1)
-    (at-item Kind.Call _ _ _ _ _ _ (o .call-of .ensures)
-    (c .entry-line .ensures Kind.Call _ (c .before .before .before .before .before .before .pre .1 .0)))
+    at-three _ Kind.Call _ _ _ _ _ _ (o .before .enum-told8 .given .1)
+    (λ n. entry (record { kind = 0; first = n .first; second = n .second })) (λ ns. refl)
+    (o .three-at4 .result)
+    (o .three-at4 .ensures)
+    (c .entry-line .ensures Kind.Call _ (c .before .before .before .before .before .before .pre .1 .0))
 
 returns-9 : tie.Need-returns-9
 returns-9 c =
     let o = c .before .before in
-    at-kind _ Kind.Step _ _ _ _ _ _ (o .before .enum-told9 .given .1)
-    (at-item Kind.Step _ _ _ _ _ _ (o .step-of .ensures)
-    (c .entry-line2 .ensures Kind.Step _ (c .before .before .before .before .before .before .pre .1 .0)))
+    at-three _ Kind.Step _ _ _ _ _ _ (o .before .enum-told9 .given .1)
+    (λ n. entry (record { kind = 1; first = n .first; second = 0 })) (λ ns. refl)
+    (o .three-at5 .result)
+    (o .three-at5 .ensures)
+    (c .entry-line2 .ensures Kind.Step _ (c .before .before .before .before .before .before .pre .1 .0))
 
 returns-10 : tie.Need-returns-10
 returns-10 c =
@@ -179,22 +195,22 @@ read-kind-spec =
     enum-told-4
     update-line-requires
     enum-told-5
-    copy-of-requires
+    three-at-requires
     move-line-requires
     enum-told-6
-    set-of-requires
+    three-at-requires-2
     move-line-requires-2
     enum-told-7
-    add-of-requires
+    three-at-requires-3
     move-line-requires-3
     enum-told-8
-    call-of-requires
+    three-at-requires-4
     entry-line-requires
     enum-told-9
-    step-of-requires
+    three-at-requires-5
     entry-line-requires-2
     enum-told-10
-    add-t23
+    add-t28
     returns
     returns-2
     returns-3

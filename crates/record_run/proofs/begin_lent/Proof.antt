@@ -13,7 +13,7 @@ use Rattle.format.proofs.Sound.{accepted-sound}
 use Rattle.layout.specs.PlanTable.{planIn}
 use Rattle.layout.specs.EntryTable.{listedIn}
 use Rattle.reader.specs.Readings.{readingFrom}
-use Rattle.reference.proofs.Verdicts.{verdict-kept}
+use Rattle.reader.proofs.Verdicts.{verdict-kept}
 use Rattle.running.proofs.Starting.{stored-plan}
 use Rattle.record_run.proofs.begin_lent.Statement.{statement}
 use Rattle.record_run.proofs.begin_lent.Tie as tie

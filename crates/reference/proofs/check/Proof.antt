@@ -5,7 +5,7 @@ use lib.ListN.{length-replicate}
 use Rattle.format.specs.Reading.{verdictOf}
 use Rattle.layout.specs.PlanTable.{emptyPlan}
 use Rattle.layout.specs.EntryTable.{entryPlaces}
-use Rattle.reference.proofs.Verdicts.{verdict-kept}
+use Rattle.reader.proofs.Verdicts.{verdict-kept}
 use Rattle.reference.proofs.check.Statement.{statement}
 use Rattle.reference.proofs.check.Tie as tie
 

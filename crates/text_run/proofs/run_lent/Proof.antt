@@ -14,9 +14,11 @@ use Rattle.runs.specs.Report.{endNumber, endLine}
 use Rattle.runs.specs.Runs.{lineIn, reported}
 use Rattle.report.specs.Writing.{reportBytes}
 use Rattle.running.specs.Schedules.{entriesIn, Lent, lent, Starts, RunIs}
-use Rattle.text_run.specs.Finishing.{Reads}
-use Rattle.text_run.proofs.Outcome.{whole-store, low-bank, low-stat, the-outcome}
-use Rattle.text_run.proofs.Laws.{empty-length, sound-plan, the-start, low-end, the-run, same-outcome}
+use Rattle.opening.proofs.Store.{empty-length}
+use Rattle.ending.proofs.Written.{same-outcome}
+use Rattle.ending.proofs.Outcome.{whole-store, low-bank, low-stat, the-outcome}
+use Rattle.text_run.specs.Reads.{Reads}
+use Rattle.text_run.proofs.Laws.{sound-plan, the-start, low-end, the-run}
 use Rattle.text_run.proofs.run_lent.Statement.{statement}
 use Rattle.text_run.proofs.run_lent.Tie as tie
 

@@ -3,7 +3,7 @@ use Prim.Native.Nat.{ℕ}
 use mathlib.Core.Path.{refl, sym}
 use mathlib.Core.List.{List, [], _∷_}
 use lib.ListN.{length-replicate}
-use Rattle.text_run.specs.Finishing.{emptyStore}
+use Rattle.opening.specs.Store.{emptyStore}
 use borrow.Author.Needs.{needs}
 use Rattle.text_run.proofs.run_plan.Statement.{statement}
 use Rattle.text_run.proofs.run_plan.Tie as tie

@@ -1,0 +1,72 @@
+-- A report is written out whole where it fits, and else not at all. Assumes nothing.
+use Prim.Native.Nat.{ℕ}
+use mathlib.Core.Path.{_≡_, refl, sym, _∙_, ap, subst}
+use mathlib.Core.Bool.{Bool, true, false, cond}
+use mathlib.Core.List.{List}
+use native.Mathlib.Omega.{arith}
+use lib.Dec.{leb}
+use lib.ListN.{length}
+use Rattle.runs.specs.declared.End.{End}
+use Rattle.runs.specs.Runs.{Outcome, reported, left}
+use Rattle.report.specs.declared.Written.{Written}
+use Rattle.report.specs.Writing.{IsWritten}
+use Rattle.ending.specs.declared.Finished.{Finished}
+use Rattle.ending.specs.Finishing.{WrittenOut}
+
+-- The same outcome is written out alike.
+pub same-outcome : {o o′ : Outcome} {before after : List ℕ} {r : Finished} → o ≡ o′ → WrittenOut o before r after
+    → WrittenOut o′ before r after
+same-outcome {before = before} {after = after} {r = r} e w = subst (λ x. WrittenOut x before r after) e w
+
+-- A report that fits is written whole, and no other is written.
+module _ (e : End) (whole before after : List ℕ) where
+  -- By whether it fits.
+  written-by : (b : Bool) → leb (length whole) (length before) ≡ b → (w : Written) → IsWritten whole before w after
+      → w ≡ cond b (Written.Whole (length whole)) Written.NoRoom
+      → (r : Finished) → r ≡ cond b (record { end = e; length = length whole }) (record {
+        end = End.NoRoom;
+        length = 0;
+      })
+      → WrittenOut (reported e whole) before r after
+  unfolding left
+  written-by true t w is a r re =
+      record {
+        end-is = ap (λ (x : Finished). x .end) re ∙ rw t;
+        length-is = ap (λ (x : Finished). x .length) re ∙ rw t;
+        left-is = is .after-is ∙ rw t;
+      }
+  written-by false t w is a r re =
+      record {
+        end-is = ap (λ (x : Finished). x .end) re ∙ rw t;
+        length-is = ap (λ (x : Finished). x .length) re ∙ rw t;
+        left-is = is .after-is ∙ rw t;
+      }
+
+  -- It was written.
+  pub written-whole : (n : ℕ) (w : Written) → IsWritten whole before w after → w ≡ Written.Whole n
+      → WrittenOut (reported e whole) before (record { end = e; length = n }) after
+  written-whole n w is told = go (leb (length whole) (length before)) refl
+    where
+      go : (b : Bool) → leb (length whole) (length before) ≡ b
+          → WrittenOut (reported e whole) before (record { end = e; length = n }) after
+      go true t =
+          let same : Written.Whole n ≡ Written.Whole (length whole) = sym told ∙ is .answer-is ∙ rw t in
+          let l : n ≡ length whole = cc in
+          written-by true t _ is (told ∙ same) _ (ap (λ k. record { end = e; length = k }) l)
+      go false t =
+          let same : Written.Whole n ≡ Written.NoRoom = sym told ∙ is .answer-is ∙ rw t in
+          let z : _≡_ {A = ℕ} 0 1 = cc in
+          absurd (omega arith)
+
+  -- It was not.
+  pub written-none : (w : Written) → IsWritten whole before w after → w ≡ Written.NoRoom
+      → WrittenOut (reported e whole) before (record { end = End.NoRoom; length = 0 }) after
+  written-none w is told = go (leb (length whole) (length before)) refl
+    where
+      go : (b : Bool) → leb (length whole) (length before) ≡ b
+          → WrittenOut (reported e whole) before (record { end = End.NoRoom; length = 0 }) after
+      go true t =
+          let same : Written.NoRoom ≡ Written.Whole (length whole) = sym told ∙ is .answer-is ∙ rw t in
+          let z : _≡_ {A = ℕ} 0 1 = cc in
+          absurd (omega arith)
+      go false t = written-by false t _ is (is .answer-is ∙ rw t) _ refl

@@ -1,0 +1,2 @@
+-- What writing out how a run ended promises.
+pub mod Finishing

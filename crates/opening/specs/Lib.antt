@@ -1,0 +1,2 @@
+-- What the opening promises.
+pub mod Store

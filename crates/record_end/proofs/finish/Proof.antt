@@ -1,0 +1,23 @@
+-- `finish` meets its contract. Assumes nothing.
+use mathlib.Core.Path.{_∙_}
+use borrow.Author.Needs.{needs}
+use Rattle.reference.proofs.Laws.{ended-as}
+use Rattle.record_end.proofs.finish.Statement.{statement}
+use Rattle.record_end.proofs.finish.Tie as tie
+
+report-of-requires : tie.Need-report-of-requires
+report-of-requires c κs = search needs
+
+ended-of-requires : tie.Need-ended-of-requires
+ended-of-requires c κs = search needs
+
+same-length : tie.Need-same-length
+same-length c = search needs
+
+returns : tie.Need-returns
+returns c text es k =
+    let w = c .before .before .before .report-of .ensures text es k in
+    (c .ended-of .ensures ∙ ended-as w, w .left-is)
+
+pub finish-spec : {M : Type 1} → statement M
+finish-spec = tie.close (tie.spec report-of-requires ended-of-requires same-length returns)

@@ -1,0 +1,2 @@
+-- The report's lines.
+pub mod Lines

@@ -1,0 +1,37 @@
+-- The report's lines from the parts that the code is given. Assumes nothing.
+use Prim.Native.Nat.{ℕ}
+use mathlib.Core.Bool.{cond}
+use mathlib.Core.List.{List, [], _∷_, _++_}
+use lib.IntN.{ℤ, pos}
+use lib.ListN.{getD}
+use Rattle.text.specs.Bytes.{bytes}
+use Rattle.text.specs.Decimal.{decimal}
+use Rattle.format.specs.declared.Sizes.{Sizes}
+use Rattle.model.specs.declared.Working.{Working}
+use Rattle.model.specs.Places.{isActive}
+use Rattle.model.specs.Working.{noWork}
+use Rattle.model.specs.Machine.{blockIn}
+use Rattle.runs.specs.Report.{fieldsBehind, lineOf, statusBytes, joined}
+
+-- The commit lines of rows of an entry, a job and an update.
+abbrev pub rowLines : List (List ℕ) → List ℕ
+rowLines [] = []
+rowLines (row ∷ rows) = lineOf (bytes "commit") row ++ rowLines rows
+
+-- The block lines, by the bank and the store.
+abbrev pub blocksBytes : Sizes → List ℕ → List ℕ → List ℕ
+blocksBytes sizes bank store =
+    joined (sizes .blocks) (λ b. lineOf (bytes "block") (blockIn (sizes .words) store (getD bank b 0)))
+
+-- The line of job k with this status.
+abbrev pub openBytes : ℕ → ℤ → List ℕ
+openBytes k status = bytes "open" ++ fieldsBehind (decimal k ∷ statusBytes status ∷ [])
+
+-- The lines of the active jobs, by the statuses and the working records.
+abbrev pub opensBytes : ℕ → List ℤ → List Working → List ℕ
+opensBytes jobs stat works =
+    joined jobs (λ k. cond (isActive (getD works k noWork .place)) (openBytes k (getD stat k (pos 0))) [])
+
+-- The last line.
+abbrev pub endBytes : ℕ → ℕ → List ℕ
+endBytes number line = lineOf (bytes "end") (number ∷ line ∷ [])

@@ -1,0 +1,136 @@
+// The lines of the report, written into a lent buffer. Each function writes its bytes from a place on, as far as the
+// buffer has room, and answers the place behind them.
+ghost use mathlib.Core.Path.{_≡_};
+ghost use mathlib.Core.Bool.{cond};
+ghost use mathlib.Core.List.{[]};
+ghost use Prim.Native.Nat.{ℕ, _≤_, _<_, _+_, _*_};
+ghost use lib.IntN.{pos};
+ghost use lib.ListN.{length, getD, take};
+ghost use Rattle.text.specs.Bytes.{bytes};
+ghost use Rattle.model.specs.Machine.{blockIn};
+ghost use Rattle.model.specs.Places.{isActive};
+ghost use Rattle.model.specs.Ranges.{StatusIn};
+ghost use Rattle.runs.specs.Report.{lineOf, statusBytes};
+ghost use Rattle.writes.specs.Writes.{Writes};
+ghost use Rattle.report_lines.specs.Lines.{rowLines, blocksBytes, openBytes, opensBytes, endBytes};
+use format::Sizes;
+use model::Place;
+use model::Working;
+
+// "`commit entry job update`": the line of a row.
+fn put_commit(buffer: &mut [u8], at: usize, row: [u32; 3]) -> usize
+    requires { ⌜ at + 40 ≤ 4294967296 ⌝ }
+    ensures { λ r. ⌜ Writes (lineOf (bytes "commit") row) 40 at (now (buffer .entry)) r (now (buffer .exit)) ⌝ }
+{
+    writes::put_line(buffer, at, b"commit", &row)
+}
+
+// "entries counted from 1, in commit order": the lines of the first n rows.
+pub fn put_commits(buffer: &mut [u8], at: usize, commits: &[[u32; 3]], n: usize) -> usize
+    requires { ⌜ (n ≤ length (now commits)) × (at + 40 * n ≤ 4294967296) ⌝ }
+    ensures { λ r. ⌜ Writes (rowLines (take n (now (commits .entry)))) (40 * n) at (now (buffer .entry)) r
+        (now (buffer .exit)) ⌝ }
+{
+    let mut next = at;
+    let mut i = 0;
+    while i < n {
+        next = put_commit(buffer, next, commits[i]);
+        i += 1;
+    }
+    next
+}
+
+// The line of a block of the store, of so many words.
+fn put_block(buffer: &mut [u8], at: usize, words: usize, number: usize, store: &[u32]) -> usize
+    requires { ⌜ (words ≤ 16) × (at + 200 ≤ 4294967296) ⌝ }
+    requires { ⌜ (length (now store) ≡ 2304) × (number < 144) ⌝ }
+    ensures { λ r. ⌜ Writes (lineOf (bytes "block") (blockIn words (now (store .entry)) number)) 200 at
+        (now (buffer .entry)) r (now (buffer .exit)) ⌝ }
+{
+    let start = number * words;
+    let end = start + words;
+    writes::put_line(buffer, at, b"block", &store[start..end])
+}
+
+// "B lines `block` with the words seen through the bank".
+pub fn put_blocks(
+    buffer: &mut [u8],
+    at: usize,
+    sizes: Sizes,
+    bank: [u8; 16],
+    store: &[u32],
+) -> usize
+    requires { ⌜ (sizes .blocks ≤ 16) × ((sizes .words ≤ 16) × (at + 3200 ≤ 4294967296)) ⌝ }
+    requires { ⌜ (length (now store) ≡ 2304) × ((b : ℕ) → getD bank b 0 < 144) ⌝ }
+    ensures { λ r. ⌜ Writes (blocksBytes sizes bank (now (store .entry))) 3200 at (now (buffer .entry)) r
+        (now (buffer .exit)) ⌝ }
+{
+    let mut next = at;
+    let mut b = 0;
+    while b < sizes.blocks {
+        let number = bank[b] as usize;
+        next = put_block(buffer, next, sizes.words, number, store);
+        b += 1;
+    }
+    next
+}
+
+// A status, "−1 printed as `-1`".
+fn put_status(buffer: &mut [u8], at: usize, status: i32) -> usize
+    requires { ⌜ (at + 11 ≤ 4294967296) × StatusIn 16 status ⌝ }
+    ensures { λ r. ⌜ Writes (statusBytes status) 11 at (now (buffer .entry)) r (now (buffer .exit)) ⌝ }
+{
+    if status == -1 {
+        let next = writes::put_byte(buffer, at, 45);
+        return writes::put_decimal(buffer, next, 1);
+    }
+    writes::put_decimal(buffer, at, status as u32)
+}
+
+// "`open job status`" of a job, where it is active.
+fn put_open(buffer: &mut [u8], at: usize, place: Place, k: usize, status: i32) -> usize
+    requires { ⌜ (at + 40 ≤ 4294967296) × ((k < 16) × StatusIn 16 status) ⌝ }
+    ensures { λ r. ⌜ Writes (cond (isActive place) (openBytes k status) []) 40 at (now (buffer .entry)) r
+        (now (buffer .exit)) ⌝ }
+{
+    if !judging::is_active(place) {
+        return at;
+    }
+    let tab = writes::put_bytes(buffer, at, b"open");
+    let job = writes::put_byte(buffer, tab, 9);
+    let second = writes::put_decimal(buffer, job, k as u32);
+    let value = writes::put_byte(buffer, second, 9);
+    let end = put_status(buffer, value, status);
+    writes::put_byte(buffer, end, 10)
+}
+
+// "`open job status` for each active job, by job number".
+pub fn put_opens(
+    buffer: &mut [u8],
+    at: usize,
+    jobs: usize,
+    stat: [i32; 17],
+    works: [Working; 16],
+) -> usize
+    requires { ⌜ (jobs ≤ 16) × ((at + 640 ≤ 4294967296) × ((k : ℕ) → StatusIn 16 (getD stat k (pos 0)))) ⌝ }
+    ensures { λ r. ⌜ Writes (opensBytes jobs stat works) 640 at (now (buffer .entry)) r (now (buffer .exit)) ⌝ }
+{
+    let mut next = at;
+    let mut k = 0;
+    while k < jobs {
+        let w = works[k];
+        let place = w.place;
+        next = put_open(buffer, next, place, k, stat[k]);
+        k += 1;
+    }
+    next
+}
+
+// "`end number line`".
+pub fn put_end(buffer: &mut [u8], at: usize, number: u32, line: u32) -> usize
+    requires { ⌜ at + 40 ≤ 4294967296 ⌝ }
+    ensures { λ r. ⌜ Writes (endBytes number line) 40 at (now (buffer .entry)) r (now (buffer .exit)) ⌝ }
+{
+    let numbers = [number, line];
+    writes::put_line(buffer, at, b"end", &numbers)
+}
