@@ -1,5 +1,5 @@
-// The texts of cases are checked and run, and what comes of a case is compared with what it says: a line is written where
-// the two differ, and for each pack how many cases agree.
+// The texts of cases are checked and run, and what comes of a case is compared with what it says: a line is written
+// where the two differ, and for each pack how many cases agree.
 ghost use Prim.Native.Nat.{_≤_};
 ghost use lib.ListN.{length};
 use format::Form;

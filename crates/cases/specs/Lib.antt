@@ -1,2 +1,2 @@
--- The root of the definitions.
+-- Where the parts of a case stand.
 pub mod Places

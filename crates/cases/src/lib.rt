@@ -1,5 +1,5 @@
 // The cases of a pack, taken apart: where their parts stand, what their first lines say, and their records.
-ghost use Prim.Native.Nat.{_+_, _≤_, _<_};
+ghost use Prim.Native.Nat.{_≤_, _<_};
 ghost use lib.ListN.{length};
 ghost use Rattle.cases.specs.Places.{Within};
 use format::Entry;
@@ -9,14 +9,14 @@ use text::Number;
 pub const RECORDS: usize = 4002;
 
 // The lengths of a case's text, of its records and of its output.
-pub struct Lengths {
-    pub text: usize,
-    pub records: usize,
-    pub output: usize,
+struct Lengths {
+    text: usize,
+    records: usize,
+    output: usize,
 }
 
 // What a case's first line says.
-pub enum Header {
+enum Header {
     Read(Lengths),
     Malformed,
 }
@@ -42,7 +42,7 @@ pub enum Room {
 }
 
 // What a record's line says.
-pub enum RecordRead {
+enum RecordRead {
     Read(Entry),
     Malformed,
 }
@@ -84,7 +84,7 @@ pub fn word(line: &[u8], x: u8, before: usize) -> &[u8] {
 }
 
 // The lengths that a case's first line gives. It is malformed where it has not seven words, or a length is no number.
-pub fn read_header(header: &[u8]) -> Header {
+fn read_header(header: &[u8]) -> Header {
     if count(header, b' ') != 6 {
         return Header::Malformed;
     }
@@ -109,7 +109,7 @@ pub fn read_header(header: &[u8]) -> Header {
 
 // The parts of a case whose first line ends at a place of a pack of that size. It is malformed where a part runs past
 // the pack's end.
-pub fn lay_out(header: usize, size: usize, lengths: Lengths) -> Next
+fn lay_out(header: usize, size: usize, lengths: Lengths) -> Next
     requires { ⌜ header < size ⌝ }
     ensures { λ r. ⌜ Within header size r ⌝ }
 {
@@ -201,7 +201,7 @@ pub fn fill(bytes: &mut [u8], x: u8) {
 }
 
 // The record that a line `kind first second` gives.
-pub fn read_record(line: &[u8]) -> RecordRead {
+fn read_record(line: &[u8]) -> RecordRead {
     if count(line, b' ') != 2 {
         return RecordRead::Malformed;
     }
@@ -222,7 +222,7 @@ pub fn read_record(line: &[u8]) -> RecordRead {
 }
 
 // The records so far, with those of more lines, from a place on.
-pub fn add_records(records: Records, bytes: &[u8], from: usize) -> Records {
+fn add_records(records: Records, bytes: &[u8], from: usize) -> Records {
     let mut entries = records.entries;
     let mut n = records.count;
     let mut at = from;

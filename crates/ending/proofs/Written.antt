@@ -6,8 +6,9 @@ use mathlib.Core.List.{List}
 use native.Mathlib.Omega.{arith}
 use lib.Dec.{leb}
 use lib.ListN.{length}
+use Rattle.format.specs.declared.Fault.{Fault}
 use Rattle.runs.specs.declared.End.{End}
-use Rattle.runs.specs.Runs.{Outcome, reported, left}
+use Rattle.runs.specs.Runs.{Outcome, refused, reported, left}
 use Rattle.report.specs.declared.Written.{Written}
 use Rattle.report.specs.Writing.{IsWritten}
 use Rattle.ending.specs.declared.Finished.{Finished}
@@ -17,6 +18,12 @@ use Rattle.ending.specs.Finishing.{WrittenOut}
 pub same-outcome : {o o′ : Outcome} {before after : List ℕ} {r : Finished} → o ≡ o′ → WrittenOut o before r after
     → WrittenOut o′ before r after
 same-outcome {before = before} {after = after} {r = r} e w = subst (λ x. WrittenOut x before r after) e w
+
+-- What is refused leaves the buffer as it was.
+pub refused-out : {o : Outcome} (f : Fault) (n : ℕ) (before : List ℕ) → o ≡ refused f n
+    → WrittenOut o before (record { end = End.Faulty f n; length = 0 }) before
+unfolding left
+refused-out f n before e = same-outcome (sym e) (record { end-is = refl; length-is = refl; left-is = refl })
 
 -- A report that fits is written whole, and no other is written.
 module _ (e : End) (whole before after : List ℕ) where

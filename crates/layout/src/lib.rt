@@ -44,7 +44,7 @@ const MOVE: usize = 8;
 // How many places an entry has.
 const ENTRY: usize = 4;
 
-// A number of a table as a size.
+// A number as a size.
 pub fn wide(n: u32) -> usize
     ensures { λ r. ⌜ r ≡ n ⌝ }
 {
@@ -143,7 +143,7 @@ pub fn target(plan: &[u32; PLAN_PLACES], m: usize) -> u32
     get(plan, MOVES + MOVE * m + 1)
 }
 
-// The word that move m reads, 0 where it reads none.
+// The word that move m reads.
 pub fn source(plan: &[u32; PLAN_PLACES], m: usize) -> u32
     requires { ⌜ m < 512 ⌝ }
     ensures { λ r. ⌜ r ≡ sourceAt (now (plan .entry)) m ⌝ }
@@ -151,7 +151,7 @@ pub fn source(plan: &[u32; PLAN_PLACES], m: usize) -> u32
     get(plan, MOVES + MOVE * m + 2)
 }
 
-// The number k of move m, 0 where it has none.
+// The number k of move m.
 pub fn amount(plan: &[u32; PLAN_PLACES], m: usize) -> u32
     requires { ⌜ m < 512 ⌝ }
     ensures { λ r. ⌜ r ≡ amountAt (now (plan .entry)) m ⌝ }

@@ -3,13 +3,13 @@
 use Prim.Native.Nat.{ℕ, _+_, _*_, _≤_, _<_}
 use mathlib.Core.Path.{_≡_, refl, sym, _∙_, ap, subst}
 use mathlib.Core.Logic.{inl, inr}
-use mathlib.Core.Bool.{Bool, true, false, cond, not, _||_}
+use mathlib.Core.Bool.{true, false, cond, _||_}
 use mathlib.Core.List.{List, [], _∷_, _++_, append-nil}
 use mathlib.Core.Option.{Option, none, some}
 use native.Mathlib.Nat.{zero-mul, mul-le-mul, add-mul, one-mul}
 use native.Mathlib.Numerals.{add-one}
 use native.Mathlib.Omega.{arith}
-use borrow.Author.Tests.{leb-true, le-leb, lt-leb, lt-ltb, le-ltb, not-true, not-false}
+use borrow.Author.Tests.{leb-true, le-leb, lt-leb, lt-ltb, le-ltb}
 use lib.Dec.{ltb, leb}
 use lib.ListN.{length}
 use Rattle.text.proofs.Cases.{both}
@@ -35,7 +35,7 @@ use Rattle.layout.proofs.PlanTable.{sizes-same, jobs-more, words-more, updates-
 use Rattle.layout.proofs.EntryTable.{entries-more}
 use Rattle.line.specs.declared.Progress.{Progress}
 use Rattle.line.specs.declared.LineRead.{LineRead}
-use Rattle.line.specs.Steps.{Tables, tables, draftOf, Ranged, Holds, Noted, LineStep, itemIf}
+use Rattle.line.specs.Steps.{Tables, tables, draftOf, Ranged, Holds, Noted, LineStep}
 use Rattle.line.proofs.Judged.{bad-fields, plan-judged, job-judged, block-judged}
 use Rattle.line.proofs.Judged.{update-judged, move-judged, entry-judged}
 use Rattle.line.proofs.Updates.{last-is, added-last}
@@ -59,15 +59,6 @@ module _ (k : Kind) (r : Numbers) (ws : List ℕ) (ns : Option (List ℕ)) (e : 
   -- The numbers of a line were read.
   pub good-item : r ≡ Numbers.Read → itemOf k ns ≡ item k ws
   good-item g = rw (← e, g)
-
-module _ (read : Bool) (i : Item) where
-  -- A line whose numbers could not be read says nothing.
-  pub says-nothing : not read ≡ true → itemIf read i ≡ none
-  says-nothing e = rw (not-true read e)
-
-  -- A line whose numbers were read says its item.
-  pub says-item : not read ≡ false → itemIf read i ≡ some i
-  says-item e = rw (not-false read e)
 
 module _ (k : Kind) (p : Progress) (x x′ : Tables) where
   -- A line whose fields cannot be read.

@@ -2,22 +2,27 @@
 -- or the answer is the line's refusal. Progress and the answers are declared in src/lib.rt. Assumes nothing.
 use Prim.Native.Nat.{ℕ, _+_, _≤_, _<_}
 use mathlib.Core.Path.{_≡_}
-use mathlib.Core.Bool.{Bool, true, false, cond}
+use mathlib.Core.Bool.{Bool, true, false}
 use mathlib.Core.List.{List, _++_}
 use mathlib.Core.Option.{Option, none, some}
 use lib.Dec.{eqb}
 use lib.ListN.{length}
+use Rattle.text.specs.declared.Three.{Three}
 use Rattle.format.specs.declared.Form.{Form}
 use Rattle.format.specs.declared.Kind.{Kind}
 use Rattle.format.specs.declared.Sizes.{Sizes}
+use Rattle.format.specs.declared.Move.{Move}
+use Rattle.format.specs.declared.Entry.{Entry}
 use Rattle.format.specs.Plan.{any, blockOf, written}
-use Rattle.format.specs.Items.{Item, Record}
+use Rattle.format.specs.Items.{Item, move, entry, Record}
 use Rattle.format.specs.Faults.{Draft, hasFault, stands, isUnknown, lastOf}
 use Rattle.format.specs.Reading.{Outcome, refused, sound, after, firstOf, byNumber, orElse, recordIn, listed}
 use Rattle.layout.specs.PlanTable.{planPlaces, sizesIn, updatesIn, countAt, planUpTo}
 use Rattle.layout.specs.EntryTable.{listedIn}
 use Rattle.line.specs.declared.Progress.{Progress}
 use Rattle.line.specs.declared.LineRead.{LineRead}
+use Rattle.line.specs.declared.MoveKind.{MoveKind}
+use Rattle.line.specs.declared.EntryKind.{EntryKind}
 
 -- The tables that a reading fills: the plan's, and the entries'.
 pub record Tables : Type 0 where
@@ -106,9 +111,26 @@ pub record LineDone (form : Form) (p : Progress) (x x′ : Tables) (bytes : List
   pub holds : HoldsAfter r (x′ .plan)
   pub noted : NotedAfter p r (x .entries) (x′ .entries) (recordAt p (x .plan) bytes .item)
 
--- What a line says, where its numbers could be read.
-abbrev pub itemIf : Bool → Item → Option Item
-itemIf read i = cond read (some i) none
+-- The move that a line says with its numbers: `copy d a`, `set d k` or `add d a k`.
+abbrev pub moveFrom : MoveKind → ℕ → ℕ → ℕ → Move
+moveFrom MoveKind.Copy d a k = Move.Copy d a
+moveFrom MoveKind.Set d a k = Move.Set d a
+moveFrom MoveKind.Add d a k = Move.Add d a k
+
+-- What a line that holds a move says, by what was read of its numbers.
+abbrev pub moveItem : MoveKind → Three → Option Item
+moveItem kind (Three.Are d a k) = some (move (moveFrom kind d a k))
+moveItem kind Three.Bad = none
+
+-- The entry that a line says with its numbers: `call job update` or `step card`.
+abbrev pub entryFrom : EntryKind → ℕ → ℕ → Entry
+entryFrom EntryKind.Call a b = record { kind = 0; first = a; second = b }
+entryFrom EntryKind.Step a b = record { kind = 1; first = a; second = 0 }
+
+-- What a line that holds an entry says, by what was read of its numbers.
+abbrev pub entryItem : EntryKind → Three → Option Item
+entryItem kind (Three.Are a b c) = some (entry (entryFrom kind a b))
+entryItem kind Three.Bad = none
 
 -- Whether one of the words is in a block of size s.
 abbrev pub writesTo : ℕ → ℕ → List ℕ → Bool

@@ -7,16 +7,18 @@ ghost use Rattle.text.specs.Lines.{numbers};
 ghost use Rattle.text.specs.Places.{fieldsAt};
 ghost use Rattle.format.specs.declared.Kind.{Kind};
 ghost use Rattle.format.specs.Plan.{named};
-ghost use Rattle.format.specs.Items.{itemOf, move};
+ghost use Rattle.format.specs.Items.{itemOf};
 ghost use Rattle.format.specs.Faults.{someFrom};
 ghost use Rattle.layout.specs.PlanTable.{updatesIn};
-ghost use Rattle.line.specs.Steps.{tables, Holds, LineStep, itemIf};
+ghost use Rattle.line.specs.Steps.{tables, Holds, LineStep, moveFrom, moveItem};
 use format::Fault;
 use format::Move;
 use layout::PLAN_PLACES;
 use line::LineRead;
+use line::MoveKind;
 use line::Progress;
 use text::Numbers;
+use text::Three;
 use text::read_numbers;
 
 // `update`.
@@ -59,19 +61,36 @@ fn names_past(m: Move, limit: u32) -> bool
     }
 }
 
-// A line that holds a move, where its numbers could be read: it is judged, and put behind the moves of the last update.
-pub fn move_line(read: bool, m: Move, p: Progress, plan: &mut [u32; PLAN_PLACES]) -> LineRead
+// The move that a line says with its numbers: `copy d a`, `set d k` or `add d a k`.
+fn move_of(kind: MoveKind, d: u32, a: u32, k: u32) -> Move
+    ensures { λ r. ⌜ r ≡ moveFrom kind d a k ⌝ }
+{
+    match kind {
+        MoveKind::Copy => Move::Copy(d, a),
+        MoveKind::Set => Move::Set(d, a),
+        MoveKind::Add => Move::Add(d, a, k),
+    }
+}
+
+// A line that holds a move: it is judged, and put behind the moves of the last update.
+pub fn move_line(
+    kind: MoveKind,
+    numbers: Three,
+    p: Progress,
+    plan: &mut [u32; PLAN_PLACES],
+) -> LineRead
     requires { ⌜ (0 < updatesIn (now plan)) × ((p .lines < 65536) × Holds p (now plan)) ⌝ }
-    ensures { λ r. ⌜ ((kind : Kind) (e : List ℕ) → LineStep kind p
+    ensures { λ r. ⌜ ((met : Kind) (e : List ℕ) → LineStep met p
         (tables (now (plan .entry)) e)
         (tables (now (plan .exit)) e)
-        (itemIf «read» (move m))
+        (moveItem kind «numbers»)
         r) ⌝ }
 {
     let number = p.lines + 1;
-    if !read {
+    let Three::Are(d, a, k) = numbers else {
         return LineRead::Refused(Fault::Malformed, number);
-    }
+    };
+    let m = move_of(kind, d, a, k);
     let last = layout::updates(plan) - 1;
     let count = layout::wide(layout::count(plan, last));
     if 16 <= count {

@@ -17,13 +17,15 @@ use Rattle.format.specs.declared.Fault.{Fault}
 use Rattle.format.specs.declared.Form.{Form}
 use Rattle.format.specs.declared.Kind.{Kind}
 use Rattle.format.specs.Kinds.{kindOf}
-use Rattle.format.specs.Items.{Item, item, itemOf, count, Record, recordOf}
+use Rattle.format.specs.Items.{Item, itemOf, count, Record, recordOf}
 use Rattle.format.specs.Faults.{isUnknown, stands, laidOut, lacksJobs, lacksBlocks}
 use Rattle.format.specs.Plan.{table}
 use Rattle.layout.specs.PlanTable.{sizesIn, updatesIn, updateAt}
 use Rattle.line.specs.declared.Progress.{Progress}
 use Rattle.line.specs.declared.LineRead.{LineRead}
-use Rattle.line.specs.Steps.{Tables, draftOf, NotedAfter, LineStep, LineDone, Standing, itemIf}
+use Rattle.line.specs.declared.MoveKind.{MoveKind}
+use Rattle.line.specs.declared.EntryKind.{EntryKind}
+use Rattle.line.specs.Steps.{Tables, draftOf, NotedAfter, LineStep, LineDone, Standing, moveItem, entryItem}
 use Rattle.format.proofs.Tables.{length-table}
 use Rattle.line.proofs.Lacking.{lacks-jobs}
 
@@ -34,19 +36,40 @@ module _ (k met : Kind) (s : ℕ) (fs : List (List ℕ)) (p : Progress) (x x′ 
       → LineStep k p x x′ (itemOf k (numbers (count s k) fs)) r
   at-kind step = subst (λ (y : Kind). LineStep y p x x′ (itemOf y (numbers (count s y) fs)) r) (sym e) step
 
-  -- A line with at most three numbers says what is made of them, where its kind makes the same.
-  pub at-three : (made : Three → Item) → ((ns : List ℕ) → some (made (asThree (some ns))) ≡ item met ns) → (n : Three)
-      → n ≡ asThree (numbers (count s met) fs) → LineStep met p x x′ (itemIf (n .read) (made n)) r
+  -- The same, where the line's numbers, at most three, have been read.
+  pub at-three : (says : Three → Option Item) → ((o : Option (List ℕ)) → says (asThree o) ≡ itemOf met o) → (n : Three)
+      → n ≡ asThree (numbers (count s met) fs) → LineStep met p x x′ (says n) r
       → LineStep k p x x′ (itemOf k (numbers (count s k) fs)) r
-  at-three made same n is step =
+  at-three says same n is step =
       at-kind
-      (subst (λ (i : Option Item). LineStep met p x x′ i r)
-      (ap (λ (y : Three). itemIf (y .read) (made y)) is ∙ by (numbers (count s met) fs))
-      step)
-    where
-      by : (o : Option (List ℕ)) → itemIf (asThree o .read) (made (asThree o)) ≡ itemOf met o
-      by none = refl
-      by (some ns) = same ns
+      (subst (λ (i : Option Item). LineStep met p x x′ i r) (ap says is ∙ same (numbers (count s met) fs)) step)
+
+-- The kind of a line that holds a move.
+abbrev moveLine : MoveKind → Kind
+moveLine MoveKind.Copy = Kind.Copy
+moveLine MoveKind.Set = Kind.Set
+moveLine MoveKind.Add = Kind.Add
+
+-- What a line that holds a move says is what the definitions say.
+pub says-move : (k : MoveKind) (o : Option (List ℕ)) → moveItem k (asThree o) ≡ itemOf (moveLine k) o
+says-move MoveKind.Copy none = refl
+says-move MoveKind.Copy (some ns) = refl
+says-move MoveKind.Set none = refl
+says-move MoveKind.Set (some ns) = refl
+says-move MoveKind.Add none = refl
+says-move MoveKind.Add (some ns) = refl
+
+-- The kind of a line that holds an entry.
+abbrev entryLine : EntryKind → Kind
+entryLine EntryKind.Call = Kind.Call
+entryLine EntryKind.Step = Kind.Step
+
+-- What a line that holds an entry says is what the definitions say.
+pub says-entry : (k : EntryKind) (o : Option (List ℕ)) → entryItem k (asThree o) ≡ itemOf (entryLine k) o
+says-entry EntryKind.Call none = refl
+says-entry EntryKind.Call (some ns) = refl
+says-entry EntryKind.Step none = refl
+says-entry EntryKind.Step (some ns) = refl
 
 -- Of an unknown kind nothing is promised here.
 pub at-unknown : (p : Progress) (x x′ : Tables) (i : Option Item) (f : Fault) (n : ℕ)

@@ -8,14 +8,14 @@ ghost use Rattle.format.specs.Items.{itemOf, count};
 ghost use Rattle.layout.specs.PlanTable.{sizesIn};
 ghost use Rattle.layout.specs.EntryTable.{entryPlaces};
 ghost use Rattle.line.specs.Steps.{tables, Holds, LineStep, LineDone, Standing};
-use format::Entry;
 use format::Fault;
 use format::Form;
 use format::Kind;
-use format::Move;
 use layout::ENTRY_PLACES;
 use layout::PLAN_PLACES;
+use line::EntryKind;
 use line::LineRead;
+use line::MoveKind;
 use line::Progress;
 use text::three_at;
 
@@ -41,36 +41,11 @@ fn read_kind(
         Kind::Job => plan_lines::job_line(line, at, p, plan),
         Kind::Block => plan_lines::block_line(line, at, p, plan),
         Kind::Update => moves::update_line(line, at, p, plan),
-        Kind::Copy => {
-            let n = three_at(line, at, 2);
-            moves::move_line(n.read, Move::Copy(n.first, n.second), p, plan)
-        }
-        Kind::Set => {
-            let n = three_at(line, at, 2);
-            moves::move_line(n.read, Move::Set(n.first, n.second), p, plan)
-        }
-        Kind::Add => {
-            let n = three_at(line, at, 3);
-            moves::move_line(n.read, Move::Add(n.first, n.second, n.third), p, plan)
-        }
-        Kind::Call => {
-            let n = three_at(line, at, 2);
-            let call = Entry {
-                kind: 0,
-                first: n.first,
-                second: n.second,
-            };
-            entry_lines::entry_line(n.read, call, p, entries)
-        }
-        Kind::Step => {
-            let n = three_at(line, at, 1);
-            let step = Entry {
-                kind: 1,
-                first: n.first,
-                second: 0,
-            };
-            entry_lines::entry_line(n.read, step, p, entries)
-        }
+        Kind::Copy => moves::move_line(MoveKind::Copy, three_at(line, at, 2), p, plan),
+        Kind::Set => moves::move_line(MoveKind::Set, three_at(line, at, 2), p, plan),
+        Kind::Add => moves::move_line(MoveKind::Add, three_at(line, at, 3), p, plan),
+        Kind::Call => entry_lines::entry_line(EntryKind::Call, three_at(line, at, 2), p, entries),
+        Kind::Step => entry_lines::entry_line(EntryKind::Step, three_at(line, at, 1), p, entries),
         Kind::Unknown => LineRead::Refused(Fault::Unknown, p.lines + 1),
     }
 }

@@ -1,7 +1,7 @@
 // The stages of a read: check, list and take. A write begins with the first two.
 ghost use mathlib.Core.Path.{_≡_};
 ghost use mathlib.Core.List.{List};
-ghost use Prim.Native.Nat.{ℕ, _<_, _/_};
+ghost use Prim.Native.Nat.{ℕ, _<_};
 ghost use lib.ListN.{length};
 ghost use Rattle.move_accesses.specs.AtMove.{StageDoes, Ready, RoomAt};
 use format::Move;

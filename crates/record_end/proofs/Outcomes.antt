@@ -1,6 +1,6 @@
 -- What a plan's text with a schedule of records comes to, case by case, and how it is written out. Assumes nothing.
 use Prim.Native.Nat.{ℕ, zero, suc, _+_, _≤_, _<_}
-use mathlib.Core.Path.{_≡_, refl, sym, _∙_, ap, subst}
+use mathlib.Core.Path.{_≡_, sym, _∙_, ap, subst}
 use mathlib.Core.List.{List}
 use mathlib.Core.Option.{Option, none, some}
 use native.Mathlib.Omega.{arith}
@@ -17,20 +17,8 @@ use Rattle.format.specs.Faults.{mostEntries}
 use Rattle.format.specs.Reading.{Reading, refusal, accepted, reading, verdictOf}
 use Rattle.model.specs.declared.Refusal.{Refusal}
 use Rattle.model.specs.Ranges.{StatusIn}
-use Rattle.runs.specs.declared.End.{End}
 use Rattle.runs.specs.Report.{endNumber, endLine}
-use Rattle.runs.specs.Runs.{
-  Outcome,
-  refused,
-  reported,
-  left,
-  endOf,
-  outcomeOf,
-  otherFrom,
-  unlessOther,
-  ofRecords,
-  runSchedule,
-}
+use Rattle.runs.specs.Runs.{refused, reported, endOf, outcomeOf, otherFrom, unlessOther, ofRecords, runSchedule}
 use Rattle.report.specs.Writing.{reportBytes}
 use Rattle.running.specs.Schedules.{refusalOf}
 use Rattle.running.specs.declared.Ran.{Ran as Ended}
@@ -39,16 +27,8 @@ use Rattle.running.specs.Schedules.{lent, RunIs}
 use Rattle.running.proofs.Starting.{ends}
 use Rattle.schedule.specs.declared.Walk.{Walk}
 use Rattle.schedule.specs.Walking.{placeOf}
-use Rattle.ending.specs.Finishing.{WrittenOut}
 use Rattle.ending.proofs.Outcome.{whole-store, low-bank, low-stat, the-outcome}
-use Rattle.ending.proofs.Written.{same-outcome}
 use Rattle.record_run.specs.Records.{Ran}
-
--- What is refused leaves the buffer as it was.
-pub refused-out : {o : Outcome} (f : Fault) (n : ℕ) (before : List ℕ) → o ≡ refused f n
-    → WrittenOut o before (record { end = End.Faulty f n; length = 0 }) before
-unfolding left
-refused-out f n before e = same-outcome (sym e) (record { end-is = refl; length-is = refl; left-is = refl })
 
 -- A refused text.
 pub refused-text : (text : List ℕ) (es : List Entry) (f : Fault) (n : ℕ)

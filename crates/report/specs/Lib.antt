@@ -1,2 +1,2 @@
--- Bytes written into a buffer, and a report from the parts that the code has.
+-- The report from the parts that the code has, written whole or not at all.
 pub mod Writing

@@ -35,7 +35,7 @@ pub struct Turned {
     pub halt: Halt,
 }
 
-// What the entries of a text came to: the cells and the working records, how many calls have committed, and the end.
+// What a run came to: the cells and the working records, how many calls have committed, and the end.
 pub struct Ran {
     pub cells: Cells,
     pub works: [Working; 16],

@@ -1,6 +1,5 @@
 // One stage of a move, by its name.
 ghost use mathlib.Core.Path.{_≡_};
-ghost use mathlib.Core.List.{List};
 ghost use Prim.Native.Nat.{_<_};
 ghost use lib.ListN.{length};
 ghost use Rattle.move_accesses.specs.AtMove.{StageDoes, Ready, RoomAt};

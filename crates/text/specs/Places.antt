@@ -1,7 +1,7 @@
 -- Lines and fields by their places in a text: the form in which the program reads them, one pass from left to right.
 -- proofs/Lines.antt ties these to the definitions of Lines. Assumes nothing.
 use Prim.Native.Nat.{ℕ, suc, _+_, _*_, _-_}
-use mathlib.Core.Bool.{true, false, cond}
+use mathlib.Core.Bool.{cond}
 use mathlib.Core.List.{List, [], _∷_}
 use mathlib.Core.Option.{Option, none, some}
 use lib.Dec.{ltb, eqb}
@@ -44,8 +44,8 @@ readInto Numbers.Bad ns = none
 
 -- Numbers, where they could be read, as the numbers of a line that has at most three.
 abbrev pub asThree : Option (List ℕ) → Three
-asThree none = record { read = false; first = 0; second = 0; third = 0 }
-asThree (some ns) = record { read = true; first = getD ns 0 0; second = getD ns 1 0; third = getD ns 2 0 }
+asThree none = Three.Bad
+asThree (some ns) = Three.Are (getD ns 0 0) (getD ns 1 0) (getD ns 2 0)
 
 -- What the digits s are worth after digits that are worth n, judged from left to right.
 abbrev pub scanned : ℕ → List ℕ → Number

@@ -25,12 +25,10 @@ pub enum Numbers {
     Bad,
 }
 
-// The numbers of a line that has at most three, 0 for those that it has not, and whether they could be read.
-pub struct Three {
-    pub read: bool,
-    pub first: u32,
-    pub second: u32,
-    pub third: u32,
+// The numbers of a line that has at most three, 0 for those that it has not.
+pub enum Three {
+    Are(u32, u32, u32),
+    Bad,
 }
 
 // The place of the first byte x of s at or after a place, or s's length where there is none.
@@ -135,17 +133,7 @@ pub fn three_at(line: &[u8], from: usize, count: usize) -> Three
 {
     let mut n = [0u32; 3];
     let Numbers::Read = read_numbers(line, from, &mut n[..count]) else {
-        return Three {
-            read: false,
-            first: 0,
-            second: 0,
-            third: 0,
-        };
+        return Three::Bad;
     };
-    Three {
-        read: true,
-        first: n[0],
-        second: n[1],
-        third: n[2],
-    }
+    Three::Are(n[0], n[1], n[2])
 }

@@ -1,6 +1,6 @@
 -- What running an accepted text asks and gives. Assumes nothing.
 use Prim.Native.Nat.{ℕ, _≤_}
-use mathlib.Core.Path.{_≡_, refl, sym, ap, subst}
+use mathlib.Core.Path.{_≡_, sym, ap, subst}
 use mathlib.Core.List.{List}
 use mathlib.Core.Option.{Option, none, some}
 use lib.ListN.{length}
@@ -17,19 +17,16 @@ use Rattle.model.specs.Machine.{openingStore}
 use Rattle.model.specs.History.{Run, runOf}
 use Rattle.runs.specs.declared.End.{End}
 use Rattle.runs.specs.Report.{endLine}
-use Rattle.runs.specs.Runs.{left, endOf, outcomeOf, lineIn, ofReading, runText}
+use Rattle.runs.specs.Runs.{refused, endOf, outcomeOf, lineIn, ofReading, runText}
 use Rattle.running.specs.Schedules.{entriesIn, emptyRows, Lent, Starts}
 use Rattle.text_entries.proofs.Text.{entries-many}
-use Rattle.ending.specs.Finishing.{WrittenOut}
-use Rattle.ending.proofs.Written.{same-outcome}
 use Rattle.text_run.specs.Reads.{Reads}
 
--- A refused text leaves the buffer as it was.
-pub refused-out : (text before : List ℕ) (f : Fault) (n : ℕ) → refusal f n ≡ reading Form.Schedule text
-    → WrittenOut (runText text) before (record { end = End.Faulty f n; length = 0 }) before
-unfolding runText left
-refused-out text before f n e =
-    same-outcome (ap ofReading e) (record { end-is = refl; length-is = refl; left-is = refl })
+-- A refused text.
+pub refused-text : (text : List ℕ) (f : Fault) (n : ℕ) → refusal f n ≡ reading Form.Schedule text
+    → runText text ≡ refused f n
+unfolding runText
+refused-text text f n e = sym (ap ofReading e)
 
 module _ (text plan entries : List ℕ) (count lines : ℕ) (read : Reads text plan entries count lines) where
   -- The plan is sound.

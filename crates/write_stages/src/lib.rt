@@ -1,6 +1,6 @@
 // The stages that only a write has: copy and write.
 ghost use mathlib.Core.List.{List};
-ghost use Prim.Native.Nat.{ℕ, _<_, _/_};
+ghost use Prim.Native.Nat.{ℕ, _<_};
 ghost use Rattle.move_accesses.specs.AtMove.{StageDoes, Ready, RoomAt};
 use format::Move;
 use format::Sizes;

@@ -14,17 +14,21 @@ use Rattle.format.specs.Plan.{blockOf, target, named, written, table}
 use Rattle.format.specs.Faults.{someFrom}
 use Rattle.format.specs.Items.{move}
 use Rattle.layout.specs.PlanTable.{sizesIn, updatesIn, countAt, targetAt, updateAt}
-use Rattle.line.specs.Steps.{Holds, itemIf, writesTo}
+use Rattle.line.specs.Steps.{Holds, moveItem, writesTo}
 use Rattle.line.proofs.Blocks.{below, some-words, blocks-more}
-use Rattle.line.proofs.Lines.{says-nothing, says-item, malformed, bad-move, move-read, count-is}
+use Rattle.line.proofs.Lines.{malformed, bad-move, move-read, count-is}
 use Rattle.line.proofs.Lines.{judged-many, judged-past, judged-blocks, judged-none}
 use borrow.Author.Needs.{needs}
 use Rattle.moves.proofs.move_line.Statement.{statement}
 use Rattle.moves.proofs.move_line.Tie as tie
 
--- The function's start, from where the count of moves has been read.
+-- Where the move has been made, from where the count of moves has been read.
+abbrev made : tie.After-wide → tie.After-move-of
+made c = c .before .before .before .before .before
+
+-- The function's start.
 abbrev start : tie.After-wide → tie.Start
-start c = c .before .before .before .before .before .before .before
+start c = made c .before .before .before .before .before
 
 -- The plan's table at the start.
 abbrev plan : tie.After-wide → List ℕ
@@ -36,20 +40,25 @@ holds c = start c .pre .1 .1
 
 -- The move that was read.
 abbrev theMove : tie.After-wide → Move
-theMove c = start c .args .m
+theMove c = made c .move-of .result
 
 -- The place of the last update.
 abbrev last : tie.After-wide → ℕ
 last c = c .before .before .before .updates .result - 1
 
 -- What the line says.
-says : (c : tie.After-wide) → itemIf (start c .args .read) (move (theMove c)) ≡ some (move (theMove c))
-says c = says-item (start c .args .read) (move (theMove c)) (c .before .before .before .before .before .if1 .left)
+says : (c : tie.After-wide) →
+    let a = start c .args in
+    moveItem (a .kind) (a .numbers) ≡ some (move (theMove c))
+says c =
+    let m = made c in
+    ap (moveItem (start c .args .kind)) (m .before .before .numbers .given .1)
+    ∙ ap (λ (x : Move). some (move x)) (sym (m .move-of .ensures))
 
 -- The last update has its place, which is below 32.
 low : (c : tie.After-updates) → c .updates .result - 1 < 32
 low c =
-    let s = c .before .before .before .before in
+    let s = c .before .before .before .before .before .before .before in
     omega (arith, c .updates .ensures, s .pre .0, s .pre .1 .1 .ranged .updates-read)
 
 low-place : (c : tie.After-wide) → last c < 32
@@ -68,7 +77,7 @@ moved c = c .before .before .before .before .before
 
 -- It has fewer than 16 moves.
 few-read : (c : tie.After-names-past) → moved c .wide .result < 16
-few-read c = c .before .before .before .before .if2 .left
+few-read c = c .before .before .before .before .if1 .left
 
 few : (c : tie.After-names-past) → countAt (plan (moved c)) (last (moved c)) < 16
 few c = subst (λ n. n < 16) (count (moved c)) (few-read c)
@@ -92,14 +101,14 @@ past c =
     ∙ sym (c .names-past .ensures)
 
 -- It names none.
-inside : (c : tie.Else3) → target (theMove (moved (c .before))) < memory (c .before)
-inside c = below (theMove (moved (c .before))) (memory (c .before)) (past (c .before) ∙ c .if3 .left)
+inside : (c : tie.Else2) → target (theMove (moved (c .before))) < memory (c .before)
+inside c = below (theMove (moved (c .before))) (memory (c .before)) (past (c .before) ∙ c .if2 .left)
 
 -- Where the words that the move names were judged, from where the blocks have been counted.
-abbrev judged : tie.After-blocks-with → tie.Else3
+abbrev judged : tie.After-blocks-with → tie.Else2
 judged c = c .before .before .before .before
 
-abbrev names : tie.Else4 → tie.After-names-past
+abbrev names : tie.Else3 → tie.After-names-past
 names c = judged (c .before .before) .before
 
 -- How many blocks the last update writes with a move to word d behind its first n moves, in blocks of a size.
@@ -127,11 +136,17 @@ counted c =
 add-number : tie.Need-add-number
 add-number c = search needs
 
+enum-known-numbers : tie.Need-enum-known-numbers
+enum-known-numbers c = search needs
+
+enum-told : tie.Need-enum-told
+enum-told c = search needs
+
 returns : tie.Need-returns
-returns c =
-    λ k e.
-    let a = c .before .before .args in
-    malformed k _ _ _ _ (says-nothing (a .read) (move (a .m)) (c .if1 .taken))
+returns c = λ k e. malformed k _ _ _ _ (rw (c .enum-told .given .1))
+
+move-of-requires : tie.Need-move-of-requires
+move-of-requires c κs = search needs
 
 updates-requires : tie.Need-updates-requires
 updates-requires c κs = search needs
@@ -150,7 +165,7 @@ returns-2 c =
     λ k e.
     let m = c .before in
     bad-move k _ _ _ _ (theMove m) (last m) Fault.TooMany (says m) (placed m)
-    (judged-many (plan m) (theMove m) (last m) (subst (λ n. 16 ≤ n) (count m) (c .if2 .taken)))
+    (judged-many (plan m) (theMove m) (last m) (subst (λ n. 16 ≤ n) (count m) (c .if1 .taken)))
 
 sizes-requires : tie.Need-sizes-requires
 sizes-requires c κs = search needs
@@ -170,7 +185,7 @@ returns-3 c =
     let n = c .before in
     let m = moved n in
     bad-move k _ _ _ _ (theMove m) (last m) Fault.BadWord (says m) (placed m)
-    (judged-past (plan m) (theMove m) (last m) (few n) (past n ∙ c .if3 .taken))
+    (judged-past (plan m) (theMove m) (last m) (few n) (past n ∙ c .if2 .taken))
 
 mul-from : tie.Need-mul-from
 mul-from c = record { fits = omega (arith, low-place (moved (c .before))) }
@@ -203,9 +218,9 @@ returns-4 c =
     let n = judged b .before in
     let m = moved n in
     bad-move k _ _ _ _ (theMove m) (last m) Fault.TooManyBlocks (says m) (placed m)
-    (judged-blocks (plan m) (theMove m) (last m) (few n) (past n ∙ judged b .if3 .left) (b .blocks-with .result)
+    (judged-blocks (plan m) (theMove m) (last m) (few n) (past n ∙ judged b .if2 .left) (b .blocks-with .result)
     (counted b)
-    (subst (λ (z : Sizes). z .copies < b .blocks-with .result) (sized n) (c .if4 .taken)))
+    (subst (λ (z : Sizes). z .copies < b .blocks-with .result) (sized n) (c .if3 .taken)))
 
 add-put-move : tie.Need-add-put-move
 add-put-move c =
@@ -231,7 +246,7 @@ returns-5 c =
     let n = judged b .before in
     let m = moved n in
     let h = holds m in
-    let enough = subst (λ (z : Sizes). b .blocks-with .result ≤ z .copies) (sized n) (i .if4 .left) in
+    let enough = subst (λ (z : Sizes). b .blocks-with .result ≤ z .copies) (sized n) (i .if3 .left) in
     move-read k _ (plan m) _ _ e _ (theMove m) (last m) (m .wide .result) (b .blocks-with .result) (says m)
     (placed m)
     (sym (count m))
@@ -239,7 +254,7 @@ returns-5 c =
     (omega (arith, h .ranged .copies, enough))
     (start m .pre .1 .0)
     h
-    (judged-none (plan m) (theMove m) (last m) (few n) (past n ∙ judged b .if3 .left) (b .blocks-with .result)
+    (judged-none (plan m) (theMove m) (last m) (few n) (past n ∙ judged b .if2 .left) (b .blocks-with .result)
     (counted b) enough)
     (counted b)
     (c .before .before .put-move .ensures)
@@ -250,7 +265,10 @@ move-line-spec =
     tie.close
     (tie.spec
     add-number
+    enum-known-numbers
+    enum-told
     returns
+    move-of-requires
     updates-requires
     sub-last
     count-requires

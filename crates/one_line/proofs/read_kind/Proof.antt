@@ -1,9 +1,9 @@
 -- `read_kind` hands each kind to its own function. Assumes nothing.
-use mathlib.Core.Path.{refl}
 use Rattle.format.specs.declared.Kind.{Kind}
-use Rattle.format.specs.declared.Move.{Move}
-use Rattle.format.specs.Items.{move, entry}
-use Rattle.one_line.proofs.Arms.{at-kind, at-three, at-unknown, standing-at}
+use Rattle.line.specs.declared.MoveKind.{MoveKind}
+use Rattle.line.specs.declared.EntryKind.{EntryKind}
+use Rattle.line.specs.Steps.{moveItem, entryItem}
+use Rattle.one_line.proofs.Arms.{at-kind, at-three, says-move, says-entry, at-unknown, standing-at}
 use borrow.Author.Needs.{needs}
 use Rattle.one_line.proofs.read_kind.Statement.{statement}
 use Rattle.one_line.proofs.read_kind.Tie as tie
@@ -137,7 +137,7 @@ returns-5 : tie.Need-returns-5
 returns-5 c =
     let o = c .before .before in
     at-three _ Kind.Copy _ _ _ _ _ _ (o .before .enum-told5 .given .1)
-    (λ n. move (Move.Copy (n .first) (n .second))) (λ ns. refl)
+    (moveItem MoveKind.Copy) (says-move MoveKind.Copy)
     (o .three-at .result)
     (o .three-at .ensures)
     (c .move-line .ensures Kind.Copy _)
@@ -146,7 +146,7 @@ returns-6 : tie.Need-returns-6
 returns-6 c =
     let o = c .before .before in
     at-three _ Kind.Set _ _ _ _ _ _ (o .before .enum-told6 .given .1)
-    (λ n. move (Move.Set (n .first) (n .second))) (λ ns. refl)
+    (moveItem MoveKind.Set) (says-move MoveKind.Set)
     (o .three-at2 .result)
     (o .three-at2 .ensures)
     (c .move-line2 .ensures Kind.Set _)
@@ -155,7 +155,7 @@ returns-7 : tie.Need-returns-7
 returns-7 c =
     let o = c .before .before in
     at-three _ Kind.Add _ _ _ _ _ _ (o .before .enum-told7 .given .1)
-    (λ n. move (Move.Add (n .first) (n .second) (n .third))) (λ ns. refl)
+    (moveItem MoveKind.Add) (says-move MoveKind.Add)
     (o .three-at3 .result)
     (o .three-at3 .ensures)
     (c .move-line3 .ensures Kind.Add _)
@@ -164,7 +164,7 @@ returns-8 : tie.Need-returns-8
 returns-8 c =
     let o = c .before .before in
     at-three _ Kind.Call _ _ _ _ _ _ (o .before .enum-told8 .given .1)
-    (λ n. entry (record { kind = 0; first = n .first; second = n .second })) (λ ns. refl)
+    (entryItem EntryKind.Call) (says-entry EntryKind.Call)
     (o .three-at4 .result)
     (o .three-at4 .ensures)
     (c .entry-line .ensures Kind.Call _ (c .before .before .before .before .before .before .pre .1 .0))
@@ -173,7 +173,7 @@ returns-9 : tie.Need-returns-9
 returns-9 c =
     let o = c .before .before in
     at-three _ Kind.Step _ _ _ _ _ _ (o .before .enum-told9 .given .1)
-    (λ n. entry (record { kind = 1; first = n .first; second = 0 })) (λ ns. refl)
+    (entryItem EntryKind.Step) (says-entry EntryKind.Step)
     (o .three-at5 .result)
     (o .three-at5 .ensures)
     (c .entry-line2 .ensures Kind.Step _ (c .before .before .before .before .before .before .pre .1 .0))

@@ -10,10 +10,9 @@ use Rattle.format.specs.declared.Entry.{Entry}
 use Rattle.runs.specs.Runs.{endOf}
 use Rattle.running.specs.Schedules.{refusalOf}
 use Rattle.running.specs.Rans.{ranOf}
-use Rattle.ending.proofs.Written.{same-outcome}
+use Rattle.ending.proofs.Written.{same-outcome, refused-out}
 use Rattle.record_run.specs.Records.{Ran, Closing}
 use Rattle.record_end.proofs.Outcomes.{
-  refused-out,
   refused-text,
   too-many,
   misplaced,

@@ -5,7 +5,8 @@ use Rattle.format.specs.declared.Form.{Form}
 use Rattle.format.specs.declared.Verdict.{Verdict}
 use Rattle.format.specs.Reading.{reading}
 use Rattle.reader.specs.Readings.{readingFrom}
-use Rattle.text_run.proofs.Laws.{refused-out}
+use Rattle.ending.proofs.Written.{refused-out}
+use Rattle.text_run.proofs.Laws.{refused-text}
 use borrow.Author.Needs.{needs}
 use Rattle.text_run.proofs.run_read.Statement.{statement}
 use Rattle.text_run.proofs.run_read.Tie as tie
@@ -42,7 +43,8 @@ returns c =
     let v = c .before in
     let r = v .before .before in
     let a = start r .args in
-    refused-out (now (a .text)) (now (a .buffer)) _ _ (given r (Verdict.Refused _ _) (v .verdict .given .1))
+    refused-out _ _ (now (a .buffer))
+    (refused-text (now (a .text)) _ _ (given r (Verdict.Refused _ _) (v .verdict .given .1)))
 
 same-length : tie.Need-same-length
 same-length c = search needs
