@@ -6,13 +6,13 @@ ghost use lib.ListN.{length};
 ghost use Rattle.format.specs.declared.Kind.{Kind};
 ghost use Rattle.layout.specs.EntryTable.{entryPlaces};
 ghost use Rattle.line.specs.Steps.{tables, Holds, LineStep, entryFrom, entryItem};
+use few_numbers::Three;
 use format::Entry;
 use format::Fault;
 use layout::ENTRY_PLACES;
 use line::EntryKind;
 use line::LineRead;
 use line::Progress;
-use text::Three;
 
 // The entry that a line says with its numbers: `call job update` or `step card`.
 fn entry_of(kind: EntryKind, first: u32, second: u32) -> Entry

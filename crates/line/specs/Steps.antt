@@ -7,7 +7,7 @@ use mathlib.Core.List.{List, _++_}
 use mathlib.Core.Option.{Option, none, some}
 use lib.Dec.{eqb}
 use lib.ListN.{length}
-use Rattle.text.specs.declared.Three.{Three}
+use Rattle.few_numbers.specs.declared.Three.{Three}
 use Rattle.format.specs.declared.Form.{Form}
 use Rattle.format.specs.declared.Kind.{Kind}
 use Rattle.format.specs.declared.Sizes.{Sizes}
@@ -113,19 +113,19 @@ pub record LineDone (form : Form) (p : Progress) (x x′ : Tables) (bytes : List
 
 -- The move that a line says with its numbers: `copy d a`, `set d k` or `add d a k`.
 abbrev pub moveFrom : MoveKind → ℕ → ℕ → ℕ → Move
-moveFrom MoveKind.Copy d a k = Move.Copy d a
-moveFrom MoveKind.Set d a k = Move.Set d a
+moveFrom MoveKind.Copy d a third = Move.Copy d a
+moveFrom MoveKind.Set d k third = Move.Set d k
 moveFrom MoveKind.Add d a k = Move.Add d a k
 
 -- What a line that holds a move says, by what was read of its numbers.
 abbrev pub moveItem : MoveKind → Three → Option Item
-moveItem kind (Three.Are d a k) = some (move (moveFrom kind d a k))
+moveItem kind (Three.Are a b c) = some (move (moveFrom kind a b c))
 moveItem kind Three.Bad = none
 
 -- The entry that a line says with its numbers: `call job update` or `step card`.
 abbrev pub entryFrom : EntryKind → ℕ → ℕ → Entry
-entryFrom EntryKind.Call a b = record { kind = 0; first = a; second = b }
-entryFrom EntryKind.Step a b = record { kind = 1; first = a; second = 0 }
+entryFrom EntryKind.Call job u = record { kind = 0; first = job; second = u }
+entryFrom EntryKind.Step card second = record { kind = 1; first = card; second = 0 }
 
 -- What a line that holds an entry says, by what was read of its numbers.
 abbrev pub entryItem : EntryKind → Three → Option Item

@@ -11,6 +11,7 @@ ghost use Rattle.format.specs.Items.{itemOf};
 ghost use Rattle.format.specs.Faults.{someFrom};
 ghost use Rattle.layout.specs.PlanTable.{updatesIn};
 ghost use Rattle.line.specs.Steps.{tables, Holds, LineStep, moveFrom, moveItem};
+use few_numbers::Three;
 use format::Fault;
 use format::Move;
 use layout::PLAN_PLACES;
@@ -18,7 +19,6 @@ use line::LineRead;
 use line::MoveKind;
 use line::Progress;
 use text::Numbers;
-use text::Three;
 use text::read_numbers;
 
 // `update`.
@@ -62,13 +62,13 @@ fn names_past(m: Move, limit: u32) -> bool
 }
 
 // The move that a line says with its numbers: `copy d a`, `set d k` or `add d a k`.
-fn move_of(kind: MoveKind, d: u32, a: u32, k: u32) -> Move
-    ensures { λ r. ⌜ r ≡ moveFrom kind d a k ⌝ }
+fn move_of(kind: MoveKind, first: u32, second: u32, third: u32) -> Move
+    ensures { λ r. ⌜ r ≡ moveFrom kind first second third ⌝ }
 {
     match kind {
-        MoveKind::Copy => Move::Copy(d, a),
-        MoveKind::Set => Move::Set(d, a),
-        MoveKind::Add => Move::Add(d, a, k),
+        MoveKind::Copy => Move::Copy(first, second),
+        MoveKind::Set => Move::Set(first, second),
+        MoveKind::Add => Move::Add(first, second, third),
     }
 }
 
@@ -87,10 +87,10 @@ pub fn move_line(
         r) ⌝ }
 {
     let number = p.lines + 1;
-    let Three::Are(d, a, k) = numbers else {
+    let Three::Are(first, second, third) = numbers else {
         return LineRead::Refused(Fault::Malformed, number);
     };
-    let m = move_of(kind, d, a, k);
+    let m = move_of(kind, first, second, third);
     let last = layout::updates(plan) - 1;
     let count = layout::wide(layout::count(plan, last));
     if 16 <= count {

@@ -10,9 +10,10 @@ use lib.ListN.{length, take}
 use borrow.Author.Tests.{ltb-true, eqb-true}
 use Rattle.text.proofs.Cases.{both}
 use Rattle.text.specs.Lines.{numbers}
-use Rattle.text.specs.declared.Three.{Three}
-use Rattle.text.specs.Places.{placeOf, fieldsAt, asThree}
+use Rattle.text.specs.Places.{placeOf, fieldsAt}
 use Rattle.text.proofs.Lines.{fields-first}
+use Rattle.few_numbers.specs.declared.Three.{Three}
+use Rattle.few_numbers.specs.Three.{asThree}
 use Rattle.format.specs.declared.Fault.{Fault}
 use Rattle.format.specs.declared.Form.{Form}
 use Rattle.format.specs.declared.Kind.{Kind}

@@ -8,6 +8,7 @@ ghost use Rattle.format.specs.Items.{itemOf, count};
 ghost use Rattle.layout.specs.PlanTable.{sizesIn};
 ghost use Rattle.layout.specs.EntryTable.{entryPlaces};
 ghost use Rattle.line.specs.Steps.{tables, Holds, LineStep, LineDone, Standing};
+use few_numbers::three_at;
 use format::Fault;
 use format::Form;
 use format::Kind;
@@ -17,7 +18,6 @@ use line::EntryKind;
 use line::LineRead;
 use line::MoveKind;
 use line::Progress;
-use text::three_at;
 
 // A line of a known kind that can stand where it does.
 fn read_kind(

@@ -5,13 +5,12 @@ use mathlib.Core.Bool.{cond}
 use mathlib.Core.List.{List, [], _∷_}
 use mathlib.Core.Option.{Option, none, some}
 use lib.Dec.{ltb, eqb}
-use lib.ListN.{length, getD, take, drop}
+use lib.ListN.{length, take, drop}
 use Rattle.text.specs.Numbers.{number, largest}
 use Rattle.text.specs.Lines.{split}
 use Rattle.text.specs.declared.Number.{Number}
 use Rattle.text.specs.declared.Field.{Field}
 use Rattle.text.specs.declared.Numbers.{Numbers}
-use Rattle.text.specs.declared.Three.{Three}
 
 -- How many bytes of s stand before its first byte x.
 abbrev pub before : ℕ → List ℕ → ℕ
@@ -41,11 +40,6 @@ fieldAt line at =
 abbrev pub readInto : Numbers → List ℕ → Option (List ℕ)
 readInto Numbers.Read ns = some ns
 readInto Numbers.Bad ns = none
-
--- Numbers, where they could be read, as the numbers of a line that has at most three.
-abbrev pub asThree : Option (List ℕ) → Three
-asThree none = Three.Bad
-asThree (some ns) = Three.Are (getD ns 0 0) (getD ns 1 0) (getD ns 2 0)
 
 -- What the digits s are worth after digits that are worth n, judged from left to right.
 abbrev pub scanned : ℕ → List ℕ → Number

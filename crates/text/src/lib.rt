@@ -5,7 +5,7 @@ ghost use Prim.Native.Nat.{_≤_, _+_};
 ghost use lib.ListN.{length};
 ghost use Rattle.text.specs.Numbers.{number};
 ghost use Rattle.text.specs.Lines.{numbers};
-ghost use Rattle.text.specs.Places.{placeOf, fieldAt, fieldsAt, readInto, asThree, scanned};
+ghost use Rattle.text.specs.Places.{placeOf, fieldAt, fieldsAt, readInto, scanned};
 
 // What a field holds.
 pub enum Number {
@@ -22,12 +22,6 @@ pub enum Field {
 // Whether the fields of a line hold the numbers asked for.
 pub enum Numbers {
     Read,
-    Bad,
-}
-
-// The numbers of a line that has at most three, 0 for those that it has not.
-pub enum Three {
-    Are(u32, u32, u32),
     Bad,
 }
 
@@ -124,16 +118,4 @@ pub fn read_numbers(line: &[u8], from: usize, out: &mut [u32]) -> Numbers
         return Numbers::Read;
     }
     Numbers::Bad
-}
-
-// The numbers of the fields from a place of a line on, where they are as many as is said, at most three.
-pub fn three_at(line: &[u8], from: usize, count: usize) -> Three
-    requires { ⌜ (from ≤ length (now line) + 1) × (count ≤ 3) ⌝ }
-    ensures { λ r. ⌜ r ≡ asThree (numbers count (fieldsAt (now (line .entry)) from)) ⌝ }
-{
-    let mut n = [0u32; 3];
-    let Numbers::Read = read_numbers(line, from, &mut n[..count]) else {
-        return Three::Bad;
-    };
-    Three::Are(n[0], n[1], n[2])
 }

@@ -5,11 +5,11 @@ use mathlib.Core.List.{List, [], _∷_, _++_}
 use lib.ListN.{getD, drop}
 use lib.Seq.{length-take-le, getD-drop}
 use denote.Ref.{now}
 use Rattle.text.specs.Lines.{numbers}
 use Rattle.text.specs.Places.{fieldsAt, readInto}
 use borrow.Author.Needs.{needs}
-use Rattle.text.proofs.three_at.Statement.{statement}
-use Rattle.text.proofs.three_at.Tie as tie
+use Rattle.few_numbers.proofs.three_at.Statement.{statement}
+use Rattle.few_numbers.proofs.three_at.Tie as tie
 
 -- Zeros behind numbers change none of them, and none past them.
 with-zeros : (ns zs : List ℕ) → ((k : ℕ) → getD zs k 0 ≡ 0) → (i : ℕ) → getD (ns ++ zs) i 0 ≡ getD ns i 0

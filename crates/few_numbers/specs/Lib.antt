@@ -1,0 +1,2 @@
+-- What reading at most three numbers promises.
+pub mod Three
