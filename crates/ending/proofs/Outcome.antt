@@ -1,36 +1,61 @@
--- What is written from the parts that the code keeps of a run is the report of the definitions. Assumes a sound plan.
+-- What is written from the tables of a run is the report of the definitions. Assumes a sound plan and at most 4,000
+-- entries.
 use Prim.Native.Nat.{ℕ, zero, suc, _≤_, _<_}
 use mathlib.Core.Path.{_≡_, refl, sym, _∙_, ap, subst}
 use mathlib.Core.Bool.{cond}
 use mathlib.Core.List.{List, [], _∷_, _++_}
 use native.Mathlib.Omega.{arith}
 use lib.IntN.{ℤ, pos, negsuc}
-use lib.ListN.{length, getD}
+use lib.ListN.{length, getD, take}
 use Rattle.text.specs.Bytes.{bytes}
 use Rattle.format.specs.declared.Entry.{Entry}
-use Rattle.format.specs.Plan.{Plan}
 use Rattle.format.specs.Sound.{Sound}
-use Rattle.model.specs.declared.Working.{Working}
-use Rattle.model.specs.declared.Cells.{Cells}
+use Rattle.layout.specs.PlanTable.{sizesIn, planIn}
 use Rattle.model.specs.Memory.{Commit}
 use Rattle.model.specs.Places.{isActive}
-use Rattle.model.specs.Working.{noWork}
-use Rattle.model.specs.Machine.{Machine}
+use Rattle.model.specs.Machine.{Machine, workOf}
 use Rattle.model.specs.History.{commitsIn, runOf}
 use Rattle.model.specs.Ranges.{StatusIn, Ranges}
-use Rattle.model.proofs.Sizes.{Sized}
-use Rattle.model.proofs.Reached.{always}
+use Rattle.model.proofs.Arrays.{getD-any}
 use Rattle.ranges.proofs.Ranges.{in-range}
-use Rattle.records.proofs.Statuses.{there}
 use Rattle.runs.specs.declared.End.{End}
-use Rattle.runs.specs.Report.{joined, lineOf, commitLines, blockLines, openLines, lastLine, report, endNumber, endLine}
-use Rattle.runs.specs.Runs.{reported, outcomeOf}
-use Rattle.stores.specs.Carried.{machineOf}
-use Rattle.report_lines.specs.Lines.{rowLines, blocksBytes, openBytes, opensBytes}
-use Rattle.report.specs.Writing.{reportBytes}
-use Rattle.running.specs.Rows.{rowIn, rowsIn}
-use Rattle.running.specs.declared.Ran.{Ran}
-use Rattle.running.specs.Schedules.{Lent, RunIs}
+use Rattle.runs.specs.Report.{joined, lineOf, commitLines, blockLines, openLines, report, endNumber, endLine}
+use Rattle.runs.specs.Runs.{reported, endOf, outcomeOf}
+use Rattle.cells.specs.declared.Registers.{Registers}
+use Rattle.cells.specs.Tables.{Tables, lent, machineOf}
+use Rattle.cells.specs.Book.{bookOf}
+use Rattle.judge.specs.Turns.{ActiveAre}
+use Rattle.judge.specs.Rulings.{haltOf}
+use Rattle.run_loop.specs.Rows.{rowIn, rowsIn}
+use Rattle.run_loop.specs.Reached.{Reached}
+use Rattle.report_lines.specs.Lines.{rowLines, openBytes, opensBytes}
+use Rattle.report.specs.Writing.{Reportable, reportBytes}
+
+-- A report can be written from tables without their rows where it can from the whole tables,
+pub reportable-rowless : {t : List ℕ} {x : Tables} → Reportable t x
+    → Reportable t (lent (x .cells) (x .stat) (x .store) [] [] [] (x .commits))
+reportable-rowless r =
+    record {
+      blocks = r .blocks;
+      words = r .words;
+      jobs = r .jobs;
+      committed = r .committed;
+      whole =
+          record {
+            cells = r .whole .cells;
+            stat = r .whole .stat;
+            store = r .whole .store;
+            commits = r .whole .commits;
+          };
+      bank = r .bank;
+      stat = r .stat;
+    }
+
+-- and it is the same.
+pub report-rowless : (t : List ℕ) (x : Tables) (number line : ℕ)
+    → reportBytes t (lent (x .cells) (x .stat) (x .store) [] [] [] (x .commits)) number line
+    ≡ reportBytes t x number line
+report-rowless t x number line = refl
 
 -- The report's commit lines are those of the rows.
 commit-lines : (es : List Entry) (cs : List Commit) → rowLines (rowsIn es cs) ≡ commitLines es cs
@@ -43,91 +68,75 @@ joined-same zero f g h = refl
 joined-same (suc n) f g h = rw (joined-same n f g (λ k l. h k (omega arith)), h n (omega arith))
 
 -- The lines of the active jobs are those of the state.
-open-lines : (plan : Plan) (cells : Cells) (works : List Working) (store : List ℕ) (addr old new : List (List ℕ))
-    → plan .sizes .jobs ≤ 16 → length (cells .stat) ≡ 17
-    → opensBytes (plan .sizes .jobs) (cells .stat) works ≡ openLines plan (machineOf cells works store addr old new)
-open-lines plan cells works store addr old new few all =
-    joined-same (plan .sizes .jobs) _ _
+open-lines : (t : List ℕ) (m : Machine) (active : List ℕ) → sizesIn t .jobs ≤ 16 → length (m .cells .stat) ≡ 17
+    → ActiveAre m active
+    → opensBytes (sizesIn t .jobs) (m .cells .stat) active ≡ openLines (planIn t) m
+open-lines t m active few all are =
+    joined-same (sizesIn t .jobs) _ _
     (λ k h.
-    ap (λ x. cond (isActive (getD works k noWork .place)) (openBytes k x) [])
-    (there (cells .stat) k (pos 0) (pos (plan .sizes .jobs)) (omega (arith, all))))
+    ap (λ b. cond b (openBytes k (getD (m .cells .stat) k (pos 0))) []) (are k (omega arith))
+    ∙ ap (λ z. cond (isActive (workOf m k .place)) (openBytes k z) [])
+    (getD-any (m .cells .stat) k (pos 0) (pos (sizesIn t .jobs)) (omega (arith, all))))
 
--- A run that has ended.
-module _ {plan : Plan} {es : List Entry} {line : ℕ → ℕ} {count : ℕ} {r : Ran} {x : Lent} (ok : Sound plan)
-    (ran : RunIs plan es line count r x) where
-  -- The cells, the end and the store.
-  abbrev cells : Cells
-  cells = r .cells
-
-  abbrev end : End
-  end = r .end
-
-  abbrev store : List ℕ
-  store = x .store
-
-  -- The state of the machine.
-  abbrev m : Machine
-  m = machineOf cells (r .works) store (x .addr) (x .old) (x .new)
-
-  -- Every array has its length.
-  whole-arrays : Sized m
-  whole-arrays =
-      subst Sized (sym (ran .machine-is)) (always plan ok es .sized)
-
-  -- Its numbers are in their ranges.
-  ranged : Ranges plan (length es) m
+-- A run that has come through its entries.
+module _ {t : List ℕ} {es : List Entry} {ws : List Registers} {x : Tables} (ok : Sound (planIn t))
+    (few : length es ≤ 4000) (g : Reached t es es ws x) where
+  -- The numbers of the machine are in their ranges.
+  ranged : Ranges (planIn t) (length es) (machineOf x ws)
   ranged =
-      subst (Ranges plan (length es)) (sym (ran .machine-is))
-      (in-range plan ok es)
-
-  -- The store is whole.
-  pub whole-store : length store ≡ 2304
-  whole-store = whole-arrays .store
-
-  -- Every block number has its block.
-  pub low-bank : (b : ℕ) → getD (cells .bank) b 0 < 144
-  low-bank = ranged .cells .bank
+      subst (Ranges (planIn t) (length es)) (sym (g .machine-is))
+      (in-range (planIn t) ok es)
 
   -- Every status is −1, a job or N.
-  pub low-stat : (k : ℕ) → StatusIn 16 (getD (cells .stat) k (pos 0))
-  low-stat k = wider (getD (cells .stat) k (pos 0)) (ranged .cells .stat k)
+  low-stat : (k : ℕ) → StatusIn 16 (getD (x .stat) k (pos 0))
+  low-stat k = wider (getD (x .stat) k (pos 0)) (ranged .cells .stat k)
     where
-      wider : (y : ℤ) → StatusIn (plan .sizes .jobs) y → StatusIn 16 y
+      wider : (y : ℤ) → StatusIn (sizesIn t .jobs) y → StatusIn 16 y
       wider (pos w) h = omega (arith, h, ok .jobs)
       wider (negsuc a) h = h
 
-  -- What is written is the report.
-  pub the-outcome :
-      reported end (reportBytes (plan .sizes) cells (r .works) store (x .commits) (r .commits) (endNumber end)
-      (endLine end))
-      ≡ outcomeOf plan es line count
+  -- The report can be written.
+  pub reportable : Reportable t x
+  reportable =
+      record {
+        blocks = ok .blocks;
+        words = ok .words;
+        jobs = ok .jobs;
+        committed = omega (arith, few, g .few-done, g .few-rows);
+        whole = g .whole;
+        bank = ranged .cells .bank;
+        stat = low-stat;
+      }
+
+  -- How the run ends.
+  pub end-is : (line : ℕ → ℕ) (count : ℕ)
+      → endOf (haltOf (bookOf x .halt)) (line (bookOf x .entries)) count
+      ≡ endOf (runOf (planIn t) es .refusal) (line (length (runOf (planIn t) es .history))) count
+  end-is line count = rw (g .stopped-by, g .counted)
+
+  -- What is written is the report, with any end.
+  bytes-are : (end : End)
+      → reportBytes t x (endNumber end) (endLine end) ≡ report (planIn t) es (runOf (planIn t) es) end
   unfolding report
-  the-outcome =
-      ap
-      (λ l.
-      reported end (rowLines l
-      ++ (blocksBytes (plan .sizes) (cells .bank) store ++ (opensBytes (plan .sizes .jobs) (cells .stat) (r .works) ++
-      lastLine end))))
-      (ran .rows-are)
-      ∙ ap
-      (λ l.
-      reported end (l
-      ++ (blocksBytes (plan .sizes) (cells .bank) store ++ (opensBytes (plan .sizes .jobs) (cells .stat) (r .works) ++
-      lastLine end))))
-      (commit-lines es (commitsIn (runOf plan es .history)))
-      ∙ ap
-      (λ l. reported end (committed ++ (blocksBytes (plan .sizes) (cells .bank) store ++ (l ++ lastLine end))))
-      (open-lines plan cells (r .works) store (x .addr) (x .old) (x .new) (ok .jobs) (whole-arrays .stat))
-      ∙ ap
-      (λ y. reported end (committed ++ (blockLines plan y ++ (openLines plan y ++ lastLine end))))
-      (ran .machine-is)
-      ∙ ap
-      (λ e.
-      reported e (committed
-      ++ (blockLines plan (runOf plan es .machine)
-      ++ (openLines plan (runOf plan es .machine) ++ lastLine e))))
-      (ran .end-is)
-    where
-      committed : List ℕ
-      committed =
-          commitLines es (commitsIn (runOf plan es .history))
+  bytes-are end =
+      let rows : rowLines (take (bookOf x .committed) (x .commits))
+      ≡ commitLines es (commitsIn (runOf (planIn t) es .history)) =
+      ap rowLines (g .rows-are) ∙ commit-lines es (commitsIn (runOf (planIn t) es .history))
+      in
+      let blocks : blockLines (planIn t) (machineOf x ws) ≡ blockLines (planIn t) (runOf (planIn t) es .machine) =
+      ap (blockLines (planIn t)) (g .machine-is)
+      in
+      let opens : opensBytes (sizesIn t .jobs) (x .stat) (bookOf x .active)
+      ≡ openLines (planIn t) (runOf (planIn t) es .machine) =
+      open-lines t (machineOf x ws) (bookOf x .active) (ok .jobs) (g .whole .stat) (g .turns .active-are)
+      ∙ ap (openLines (planIn t)) (g .machine-is)
+      in
+      rw (rows, blocks, opens)
+
+  -- What the run comes to.
+  pub the-outcome : (line : ℕ → ℕ) (count : ℕ) (end : End)
+      → end ≡ endOf (runOf (planIn t) es .refusal) (line (length (runOf (planIn t) es .history))) count
+      → reported end (reportBytes t x (endNumber end) (endLine end)) ≡ outcomeOf (planIn t) es line count
+  the-outcome line count end e =
+      ap (reported end) (bytes-are end)
+      ∙ ap (λ y. reported y (report (planIn t) es (runOf (planIn t) es) y)) e

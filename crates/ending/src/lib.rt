@@ -1,21 +1,21 @@
 // How a run ends: the number and the line of its end, and its report, written into the lent buffer where there is room
 // for it.
 ghost use mathlib.Core.Path.{_≡_};
-ghost use Prim.Native.Nat.{ℕ, _≤_, _<_};
-ghost use lib.IntN.{pos};
-ghost use lib.ListN.{length, getD};
+ghost use mathlib.Core.List.{[]};
+ghost use Prim.Native.Nat.{_≤_};
 ghost use Rattle.format.specs.Faults.{numberOf};
 ghost use Rattle.model.specs.Entries.{refusalNumber as numberInTable};
-ghost use Rattle.model.specs.Ranges.{StatusIn};
 ghost use Rattle.runs.specs.Report.{endNumber, endLine};
-ghost use Rattle.runs.specs.Runs.{reported};
-ghost use Rattle.report.specs.Writing.{reportBytes};
+ghost use Rattle.runs.specs.Runs.{reported, endOf};
+ghost use Rattle.cells.specs.Tables.{lent};
+ghost use Rattle.judge.specs.Rulings.{haltOf};
+ghost use Rattle.report.specs.Writing.{Reportable, reportBytes};
 ghost use Rattle.ending.specs.Finishing.{WrittenOut};
+use cells::CELL_PLACES;
 use format::Fault;
-use format::Sizes;
+use layout::PLAN_PLACES;
 use model::Refusal;
 use report::Written;
-use running::Ran;
 use runs::End;
 
 // How a run ended, and the length of its report, 0 where none is written.
@@ -78,37 +78,44 @@ pub fn end_line(end: End) -> usize
     }
 }
 
+// How a run ends: by the refusal that stopped it, at this line, or accepted with a count.
+pub fn end_of(halt: u32, line: usize, count: usize) -> End
+    ensures { λ r. ⌜ r ≡ endOf (haltOf halt) line count ⌝ }
+{
+    if halt == 0 {
+        return End::Accepted(count);
+    }
+    End::Refused(judge::refusal_numbered(halt), line)
+}
+
 // The report of a run whose entries have run is written, where there is room for it; 15 is decided here, last.
 pub fn finish(
     buffer: &mut [u8],
-    sizes: Sizes,
-    ran: Ran,
+    plan: &[u32; PLAN_PLACES],
+    cells: &[u32; CELL_PLACES],
+    stat: &[i32; 17],
     store: &[u32],
     commits: &[[u32; 3]; 4000],
+    end: End,
 ) -> Finished
-    requires { ⌜ (sizes .blocks ≤ 16) × ((sizes .words ≤ 16) × ((sizes .jobs ≤ 16) × (ran .commits ≤ 4000))) ⌝ }
-    requires { ⌜ (length (now store) ≡ 2304) × (((b : ℕ) → getD (ran .cells .bank) b 0 < 144)
-        × ((k : ℕ) → StatusIn 16 (getD (ran .cells .stat) k (pos 0)))) ⌝ }
-    requires { ⌜ endLine (ran .end) ≤ 65536 ⌝ }
+    requires { ⌜ Reportable (now plan) (lent (now cells) (now stat) (now store) [] [] [] (now commits)) ⌝ }
+    requires { ⌜ endLine end ≤ 65536 ⌝ }
     ensures { λ r. ⌜ WrittenOut
-        (reported (ran .end)
-        (reportBytes sizes (ran .cells) (ran .works) (now (store .entry)) (now (commits .entry)) (ran .commits)
-        (endNumber (ran .end)) (endLine (ran .end))))
+        (reported end
+        (reportBytes (now (plan .entry))
+        (lent (now (cells .entry)) (now (stat .entry)) (now (store .entry)) [] [] [] (now (commits .entry)))
+        (endNumber end) (endLine end)))
         (now (buffer .entry)) r (now (buffer .exit)) ⌝ }
 {
-    let cells = ran.cells;
-    let works = ran.works;
-    let end = ran.end;
     let number = end_number(end);
     let line = end_line(end);
     let written = report::write(
         buffer,
-        sizes,
+        plan,
         cells,
-        works,
+        stat,
         store,
         commits,
-        ran.commits,
         number as u32,
         line as u32,
     );

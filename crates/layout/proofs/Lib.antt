@@ -3,3 +3,4 @@ pub mod Puts
 pub mod Tables
 pub mod PlanTable
 pub mod EntryTable
+pub mod PlanIn

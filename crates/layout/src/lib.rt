@@ -88,6 +88,34 @@ pub fn sizes(plan: &[u32; PLAN_PLACES]) -> Sizes
     }
 }
 
+// N, how many jobs there are.
+pub fn jobs(plan: &[u32; PLAN_PLACES]) -> u32
+    ensures { λ r. ⌜ r ≡ sizesIn (now (plan .entry)) .jobs ⌝ }
+{
+    get(plan, 1)
+}
+
+// P, how many cards there are.
+pub fn cards(plan: &[u32; PLAN_PLACES]) -> u32
+    ensures { λ r. ⌜ r ≡ sizesIn (now (plan .entry)) .cards ⌝ }
+{
+    get(plan, 0)
+}
+
+// S, how many words a block has.
+pub fn words(plan: &[u32; PLAN_PLACES]) -> u32
+    ensures { λ r. ⌜ r ≡ sizesIn (now (plan .entry)) .words ⌝ }
+{
+    get(plan, 3)
+}
+
+// C, how many blocks an update may write.
+pub fn copies(plan: &[u32; PLAN_PLACES]) -> u32
+    ensures { λ r. ⌜ r ≡ sizesIn (now (plan .entry)) .copies ⌝ }
+{
+    get(plan, 4)
+}
+
 // How many updates there are.
 pub fn updates(plan: &[u32; PLAN_PLACES]) -> usize
     ensures { λ r. ⌜ r ≡ updatesIn (now (plan .entry)) ⌝ }

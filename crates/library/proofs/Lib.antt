@@ -1,2 +1,2 @@
--- The five arrays of a run of records.
+-- The local arrays of a run of records.
 pub mod Arrays

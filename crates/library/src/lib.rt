@@ -4,8 +4,10 @@ ghost use mathlib.Core.Path.{_≡_};
 ghost use Rattle.format.specs.Reading.{reading, verdictOf};
 ghost use Rattle.runs.specs.Runs.{runText, runSchedule, left};
 ghost use Rattle.reference.specs.Answers.{answerOf, endedOf};
+use cells::CELL_PLACES;
 use format::Entry;
 use format::Form;
+use layout::PLAN_PLACES;
 use reference::Answer;
 use reference::Ended;
 
@@ -48,18 +50,24 @@ pub extern "C" fn point_memory_run_schedule(
     ensures { λ _. ⌜ now (buffer .exit)
         ≡ left (runSchedule (now (text .entry)) (now (records .entry))) (now (buffer .entry)) ⌝ }
 {
+    let mut plan = [0u32; PLAN_PLACES];
+    let mut cells = [0u32; CELL_PLACES];
+    let mut stat = [0i32; 17];
     let mut store = [0u32; 2304];
-    let empty = [0u8; 16];
+    let empty = [0u32; 16];
     let mut addr = [empty; 16];
     let mut old = [empty; 16];
     let mut new = [empty; 16];
     let none = [0u32; 3];
     let mut commits = [none; 4000];
     let count = records.len();
-    let begun = record_run::begin(text, count, &mut store);
-    let walk = record_run::run_begun(
+    let begun = record_run::begin(text, count, &mut plan, &mut cells, &mut stat, &mut store);
+    run_loop::run_records(
         records,
-        begun,
+        begun.n,
+        &plan,
+        &mut cells,
+        &mut stat,
         &mut store,
         &mut addr,
         &mut old,
@@ -67,7 +75,14 @@ pub extern "C" fn point_memory_run_schedule(
         &mut commits,
     );
     let verdict = begun.verdict;
-    let plan = begun.plan;
-    let sizes = plan.sizes;
-    record_end::finish(verdict, count, sizes, walk, &store, &commits, buffer)
+    record_end::finish(
+        verdict,
+        count,
+        &plan,
+        &cells,
+        &stat,
+        &store,
+        &commits,
+        buffer,
+    )
 }

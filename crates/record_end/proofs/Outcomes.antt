@@ -1,34 +1,32 @@
 -- What a plan's text with a schedule of records comes to, case by case, and how it is written out. Assumes nothing.
 use Prim.Native.Nat.{ℕ, zero, suc, _+_, _≤_, _<_}
 use mathlib.Core.Path.{_≡_, sym, _∙_, ap, subst}
-use mathlib.Core.List.{List}
+use mathlib.Core.List.{List, []}
 use mathlib.Core.Option.{Option, none, some}
 use native.Mathlib.Omega.{arith}
 use borrow.Author.Tests.{lt-ltb, le-ltb}
-use lib.IntN.{pos}
-use lib.ListN.{length, getD}
-use Rattle.format.specs.declared.Sizes.{Sizes}
+use lib.ListN.{length}
 use Rattle.format.specs.declared.Entry.{Entry}
 use Rattle.format.specs.declared.Fault.{Fault}
 use Rattle.format.specs.declared.Form.{Form}
 use Rattle.format.specs.declared.Verdict.{Verdict}
 use Rattle.format.specs.Plan.{Plan, Listed}
+use Rattle.format.specs.Sound.{Sound}
 use Rattle.format.specs.Faults.{mostEntries}
 use Rattle.format.specs.Reading.{Reading, refusal, accepted, reading, verdictOf}
+use Rattle.format.proofs.Sound.{accepted-sound}
+use Rattle.layout.specs.PlanTable.{planIn}
 use Rattle.model.specs.declared.Refusal.{Refusal}
-use Rattle.model.specs.Ranges.{StatusIn}
+use Rattle.runs.specs.declared.End.{End}
 use Rattle.runs.specs.Report.{endNumber, endLine}
 use Rattle.runs.specs.Runs.{refused, reported, endOf, outcomeOf, otherFrom, unlessOther, ofRecords, runSchedule}
-use Rattle.report.specs.Writing.{reportBytes}
-use Rattle.running.specs.Schedules.{refusalOf}
-use Rattle.running.specs.declared.Ran.{Ran as Ended}
-use Rattle.running.specs.Rans.{ranOf}
-use Rattle.running.specs.Schedules.{lent, RunIs}
-use Rattle.running.proofs.Starting.{ends}
-use Rattle.schedule.specs.declared.Walk.{Walk}
-use Rattle.schedule.specs.Walking.{placeOf}
-use Rattle.ending.proofs.Outcome.{whole-store, low-bank, low-stat, the-outcome}
-use Rattle.record_run.specs.Records.{Ran}
+use Rattle.cells.specs.Tables.{Tables, lent}
+use Rattle.cells.specs.Book.{bookOf}
+use Rattle.judge.specs.Rulings.{haltOf}
+use Rattle.run_loop.specs.Reached.{placeOf, Ran}
+use Rattle.report.specs.Writing.{Reportable, reportBytes}
+use Rattle.ending.proofs.Outcome.{reportable-rowless, reportable, end-is, the-outcome}
+use Rattle.record_run.specs.Records.{Accepts}
 
 -- A refused text.
 pub refused-text : (text : List ℕ) (es : List Entry) (f : Fault) (n : ℕ)
@@ -92,46 +90,25 @@ low-end none done count a c = omega (arith, c)
 low-end (some x) done count a c = omega (arith, a)
 
 -- Records that have run.
-module _ {text : List ℕ} {es : List Entry} {lines : ℕ} {sizes : Sizes} {walk : Walk} {store : List ℕ}
-    {rows : List (List ℕ)} (r : Ran text es lines sizes walk store rows) (few : length es ≤ 4000)
-    (ran : Ended)
-    (ran-is : ran
-    ≡ ranOf (walk .progress)
-    (endOf (refusalOf (walk .progress .halt)) (walk .progress .state .entries + 1) (length es))) where
-  -- Few were accepted.
-  pub few-accepted : walk .progress .state .entries ≤ 4000
-  few-accepted = omega (arith, r .walked .reached .few-done, few)
-
-  -- The run has ended.
-  ended : RunIs (r .plan) es (λ i. i + 1) (length es) ran (lent store (r .addr) (r .old) (r .new) rows)
-  ended = rw (ran-is) (ends (r .walked .reached) few (λ i. i + 1) (length es))
+module _ {text : List ℕ} {es : List Entry} {lines : ℕ} {t : List ℕ} {x : Tables} (a : Accepts text lines t)
+    (ran : Ran t es es x) (few : length es ≤ 4000) (end : End)
+    (so : end ≡ endOf (haltOf (bookOf x .halt)) (bookOf x .entries + 1) (length es)) where
+  -- The plan is sound.
+  sound : Sound (planIn t)
+  sound = accepted-sound Form.PlanAlone text (planIn t) (a .listed) lines (a .read)
 
   -- What writing the report asks.
-  pub small : (sizes .blocks ≤ 16) × ((sizes .words ≤ 16) × ((sizes .jobs ≤ 16) × (ran .commits ≤ 4000)))
-  small =
-      rw (← r .sizes-are) (r .sound .blocks, (r .sound .words, (r .sound .jobs, ended .few-rows)))
+  pub to-report : Reportable t (lent (x .cells) (x .stat) (x .store) [] [] [] (x .commits))
+  to-report = reportable-rowless (reportable sound few (ran .1))
 
-  pub in-ranges : (length store ≡ 2304) × (((b : ℕ) → getD (ran .cells .bank) b 0 < 144)
-      × ((k : ℕ) → StatusIn 16 (getD (ran .cells .stat) k (pos 0))))
-  in-ranges = (whole-store (r .sound) ended, (low-bank (r .sound) ended, low-stat (r .sound) ended))
-
-  pub low-place : endLine (ran .end) ≤ 65536
+  pub low-place : endLine end ≤ 65536
   low-place =
-      subst (λ (x : Ended). endLine (x .end) ≤ 65536) (sym ran-is)
-      (low-end (refusalOf (walk .progress .halt)) (walk .progress .state .entries) (length es) few-accepted few)
+      subst (λ e. endLine e ≤ 65536) (sym so)
+      (low-end (haltOf (bookOf x .halt)) (bookOf x .entries) (length es) (omega (arith, ran .1 .few-done, few)) few)
 
   -- What is written, where no record is of another kind.
-  pub written : walk .other ≤ 0
-      → reported (ran .end)
-      (reportBytes sizes (ran .cells) (ran .works) store rows (ran .commits) (endNumber (ran .end))
-      (endLine (ran .end)))
-      ≡ runSchedule text es
+  pub written : bookOf x .other ≤ 0 → reported end (reportBytes t x (endNumber end) (endLine end)) ≡ runSchedule text es
   written none-other =
-      ap
-      (λ z.
-      reported (ran .end)
-      (reportBytes z (ran .cells) (ran .works) store rows (ran .commits) (endNumber (ran .end))
-      (endLine (ran .end))))
-      (sym (r .sizes-are))
-      ∙ the-outcome (r .sound) ended
-      ∙ runs text es (r .plan) (r .listed) lines (r .read) few (walk .other) (r .walked .other-is) none-other
+      the-outcome sound few (ran .1) (λ i. i + 1) (length es) end
+      (so ∙ end-is sound few (ran .1) (λ i. i + 1) (length es))
+      ∙ runs text es (planIn t) (a .listed) lines (a .read) few (bookOf x .other) (ran .1 .other-is) none-other

@@ -1,118 +1,103 @@
 -- What comes before the records run is what running them asks, and when they have run it is known what is to be
 -- reported. Assumes nothing.
 use Prim.Native.Nat.{ℕ, _≤_, _<_}
-use mathlib.Core.Path.{_≡_, refl, _∙_, ap, subst}
+use mathlib.Core.Path.{_≡_, refl, sym, _∙_, ap, subst}
 use mathlib.Core.List.{List}
 use native.Mathlib.Decide.{decLt}
 use native.Mathlib.Omega.{arith}
 use borrow.Author.Tests.{lt-ltb, le-ltb}
+use lib.IntN.{ℤ}
 use lib.ListN.{length, take}
 use lib.Seq.{take-length}
 use Rattle.format.specs.declared.Entry.{Entry}
+use Rattle.format.specs.declared.Form.{Form}
 use Rattle.format.specs.declared.Verdict.{Verdict}
-use Rattle.plan_arrays.specs.declared.PlanArrays.{PlanArrays}
-use Rattle.format.specs.Plan.{Plan}
 use Rattle.format.specs.Faults.{mostEntries}
-use Rattle.running.specs.Schedules.{lent, Starts}
-use Rattle.running.proofs.Starting.{begins}
-use Rattle.schedule.specs.declared.Walk.{Walk}
-use Rattle.schedule.specs.Walking.{placeOf, WalkIs, Walks}
+use Rattle.format.specs.Sound.{Sound}
+use Rattle.format.proofs.Sound.{accepted-sound}
+use Rattle.layout.specs.PlanTable.{planIn}
+use Rattle.cells.specs.Tables.{Tables, lent}
+use Rattle.run_loop.specs.Reached.{Starts, Ran}
+use Rattle.open_tables.specs.Opened.{emptyRows, Opened}
 use Rattle.record_run.specs.declared.Begun.{Begun}
-use Rattle.record_run.specs.Records.{toRun, Accepts, ByVerdict, Ready, Closing}
+use Rattle.record_run.specs.Records.{toRun, Accepts, ByVerdict, BegunIs, Closing}
+use Rattle.run_loop.proofs.Starting.{opened-starts}
 
--- No more records run than there are, and at most 4,000.
-few-run : (count : ℕ) → (toRun count ≤ count) × (toRun count ≤ 4000)
+-- No more records run than there are.
+few-run : (count : ℕ) → toRun count ≤ count
 few-run count = by (decLt mostEntries count)
   where
-    by : Dec (mostEntries < count) → (toRun count ≤ count) × (toRun count ≤ 4000)
-    by (yes l) = rw (lt-ltb mostEntries count l) (omega arith, omega arith)
+    by : Dec (mostEntries < count) → toRun count ≤ count
+    by (yes l) = rw (lt-ltb mostEntries count l) (omega arith)
     by (no n) =
         let few : count ≤ mostEntries = omega arith in
-        rw (le-ltb mostEntries count few) (omega arith, omega arith)
+        rw (le-ltb mostEntries count few) (omega arith)
+
+-- Where one runs they are few.
+none-of-many : (count : ℕ) → 0 < toRun count → count ≤ 4000
+none-of-many count l = by (decLt mostEntries count)
+  where
+    by : Dec (mostEntries < count) → count ≤ 4000
+    by (yes m) =
+        let none : toRun count ≡ 0 = rw (lt-ltb mostEntries count m) in
+        absurd (omega (arith, none))
+    by (no m) = omega arith
 
 -- All run where they are few.
 all-run : (count : ℕ) → count ≤ 4000 → toRun count ≡ count
 all-run count few = rw (le-ltb mostEntries count few)
 
-module _ {text : List ℕ} (es : List Entry) {begun : Begun} {store : List ℕ} {addr old new rows : List (List ℕ)}
-    (r : Ready text (length es) begun store addr old new rows) where
-  -- The arrays of the plan, and what running the records asks.
-  abbrev p : PlanArrays
-  p = begun .plan
+-- A plan that was accepted is sound.
+sound : {text t : List ℕ} {lines : ℕ} → Accepts text lines t → Sound (planIn t)
+sound {text} {t} {lines} a = accepted-sound Form.PlanAlone text (planIn t) (a .listed) lines (a .read)
 
-  abbrev pub Start : Plan → Type 0
-  Start plan =
-      Walks plan es (p .sizes) (p .updates) (p .cards) (p .priorities) (p .counts) (p .kinds) (p .targets) (p .sources)
-      (p .amounts) (begun .walk) store addr old new rows
+-- The rows and the commits before any record has run.
+abbrev pub Fresh : List (List ℕ) → List (List ℕ) → List (List ℕ) → List (List ℕ) → Type 0
+Fresh addr old new commits =
+    (addr ≡ emptyRows) × ((old ≡ emptyRows) × ((new ≡ emptyRows) × (length commits ≡ 4000)))
 
-  -- An accepted text's records can run, where they are few.
-  started : (lines : ℕ) (a : Accepts text lines (length es) begun store) → length es ≤ 4000 → Start (a .plan)
-  started lines a few =
-      record {
-        stored = a .stored;
-        few = few;
-        walked =
-            record {
-              reached = begins starts (begun .walk .progress) (a .opens);
-              all-seen = a .none-seen;
-              other-is = ap placeOf (a .none-other);
-            };
-      }
-    where
-      starts : Starts (a .plan) es (lent store addr old new rows)
-      starts =
-          record {
-            sound = a .stored .sound;
-            few = few;
-            store-is = a .store-is;
-            addr-is = r .addr-is;
-            old-is = r .old-is;
-            new-is = r .new-is;
-            all-rows = r .all-rows;
-          }
+-- What `begin` has left, with such rows and commits.
+module _ {text : List ℕ} (es : List Entry) {begun : Begun} {t cells : List ℕ} {stat : List ℤ} {store : List ℕ}
+    (is : BegunIs text (length es) begun t cells stat store) {addr old new : List (List ℕ)} (commits : List (List ℕ))
+    (made : Fresh addr old new commits) where
+  -- The tables that are lent to the run.
+  abbrev x : Tables
+  x = lent cells stat store addr old new commits
+
+  -- The records of an accepted text can run, where they are few.
+  starts : {lines : ℕ} → Accepts text lines t → Opened t cells stat store → length es ≤ 4000 → Starts t es x
+  starts a o few =
+      subst (λ (r : List (List ℕ)). Starts t es (lent cells stat store r old new commits)) (sym (made .0))
+      (subst (λ (r : List (List ℕ)). Starts t es (lent cells stat store emptyRows r new commits)) (sym (made .1 .0))
+      (subst (λ (r : List (List ℕ)). Starts t es (lent cells stat store emptyRows emptyRows r commits))
+      (sym (made .1 .1 .0)) (opened-starts (sound a) o es few commits (made .1 .1 .1))))
 
   -- What running the records asks.
-  pub asks : (begun .n ≤ length es) × (0 < begun .n → ((plan : Plan) × Start plan))
-  asks = by (begun .verdict) (r .begun-is .by-verdict)
+  pub asks : (begun .n ≤ length es) × (0 < begun .n → Starts t es x)
+  asks = by (begun .verdict) (is .by-verdict)
     where
-      by : (v : Verdict) → ByVerdict v text (length es) begun store
-          → (begun .n ≤ length es) × (0 < begun .n → ((plan : Plan) × Start plan))
+      by : (v : Verdict) → ByVerdict v text (length es) (begun .n) t cells stat store
+          → (begun .n ≤ length es) × (0 < begun .n → Starts t es x)
       by (Verdict.Refused f n) none = (omega (arith, none), λ l. absurd (omega (arith, none)))
-      by (Verdict.Accepted lines) a =
-          (omega (arith, a .n-is, few-run (length es) .0), λ l. (a .plan, start lines a l))
-        where
-          start : (lines : ℕ) (a : Accepts text lines (length es) begun store) → 0 < begun .n → Start (a .plan)
-          start lines a l = started lines a (small (decLt mostEntries (length es)))
-            where
-              small : Dec (mostEntries < length es) → length es ≤ 4000
-              small (yes m) =
-                  let none : toRun (length es) ≡ 0 = rw (lt-ltb mostEntries (length es) m) in
-                  absurd (omega (arith, a .n-is, none))
-              small (no m) = omega arith
+      by (Verdict.Accepted lines) (a, (n-is, o)) = (
+        omega (arith, n-is, few-run (length es)),
+        λ l. starts a o (none-of-many (length es) (omega (arith, n-is))),
+      )
 
   -- What is known when they have run.
-  pub closing : {walk : Walk} {store′ : List ℕ} {addr′ old′ new′ rows′ : List (List ℕ)}
-      → ((plan : Plan) → Start plan → WalkIs plan es (take (begun .n) es) walk store′ addr′ old′ new′ rows′)
-      → Closing text es (begun .verdict) (length es) (p .sizes) walk store′ rows′
-  closing {walk} {store′} {addr′} {old′} {new′} {rows′} w =
+  pub closing : {y : Tables} → (Starts t es x → Ran t es (take (begun .n) es) y)
+      → Closing text es (begun .verdict) (length es) t y
+  closing {y} runs =
       record {
         counted = refl;
-        verdict-is = r .begun-is .verdict-is;
+        verdict-is = is .verdict-is;
         ran =
-            λ lines is few.
-            let a = subst (λ v. ByVerdict v text (length es) begun store) is (r .begun-is .by-verdict) in
-            record {
-              plan = a .plan;
-              listed = a .listed;
-              read = a .read;
-              sound = a .stored .sound;
-              sizes-are = a .stored .plan-is .sizes-are;
-              addr = addr′;
-              old = old′;
-              new = new′;
-              walked =
-                  subst (λ l. WalkIs (a .plan) es l walk store′ addr′ old′ new′ rows′)
-                  (ap (λ n. take n es) (a .n-is ∙ all-run (length es) few) ∙ take-length es)
-                  (w (a .plan) (started lines a few));
-            };
+            λ lines e few.
+            let accepted =
+            subst (λ (v : Verdict). ByVerdict v text (length es) (begun .n) t cells stat store) e (is .by-verdict) in (
+              accepted .0,
+              subst (λ (l : List Entry). Ran t es l y)
+                  (ap (λ (n : ℕ). take n es) (accepted .1 .0 ∙ all-run (length es) few) ∙ take-length es)
+                  (runs (starts (accepted .0) (accepted .1 .1) few)),
+            );
       }

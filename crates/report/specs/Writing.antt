@@ -1,22 +1,36 @@
 -- The report from the parts that the code is given, written whole into a lent buffer or not at all. Assumes nothing.
-use Prim.Native.Nat.{ℕ}
+use Prim.Native.Nat.{ℕ, _≤_, _<_}
 use mathlib.Core.Path.{_≡_}
 use mathlib.Core.Bool.{cond}
 use mathlib.Core.List.{List, _++_}
 use lib.Dec.{leb}
-use lib.ListN.{length, take, drop}
-use Rattle.format.specs.declared.Sizes.{Sizes}
-use Rattle.model.specs.declared.Working.{Working}
-use Rattle.model.specs.declared.Cells.{Cells}
+use lib.IntN.{pos}
+use lib.ListN.{length, getD, take, drop}
+use Rattle.layout.specs.PlanTable.{sizesIn}
+use Rattle.model.specs.Ranges.{StatusIn}
+use Rattle.cells.specs.CellTable.{places, bankAt}
+use Rattle.cells.specs.Tables.{Tables, Whole}
+use Rattle.cells.specs.Book.{bookOf}
 use Rattle.report_lines.specs.Lines.{rowLines, blocksBytes, opensBytes, endBytes}
 use Rattle.report.specs.declared.Written.{Written}
 
--- A whole report, with the first n rows of commits.
-abbrev pub reportBytes : Sizes → Cells → List Working → List ℕ → List (List ℕ) → ℕ → ℕ → ℕ → List ℕ
-reportBytes sizes cells works store commits n number line =
-    rowLines (take n commits)
-    ++ (blocksBytes sizes (cells .bank) store
-    ++ (opensBytes (sizes .jobs) (cells .stat) works
+-- What a report is written from: the sizes, the statuses and the block numbers are in their ranges, and the tables are
+-- whole.
+pub record Reportable (t : List ℕ) (x : Tables) : Type 0 where
+  pub blocks : sizesIn t .blocks ≤ 16
+  pub words : sizesIn t .words ≤ 16
+  pub jobs : sizesIn t .jobs ≤ 16
+  pub committed : bookOf x .committed ≤ 4000
+  pub whole : Whole x
+  pub bank : (b : ℕ) → getD (places (x .cells) bankAt 16) b 0 < 144
+  pub stat : (k : ℕ) → StatusIn 16 (getD (x .stat) k (pos 0))
+
+-- A whole report of a plan's table and tables, with the number and the line of its end.
+abbrev pub reportBytes : List ℕ → Tables → ℕ → ℕ → List ℕ
+reportBytes t x number line =
+    rowLines (take (bookOf x .committed) (x .commits))
+    ++ (blocksBytes (sizesIn t) (places (x .cells) bankAt 16) (x .store)
+    ++ (opensBytes (sizesIn t .jobs) (x .stat) (bookOf x .active)
     ++ endBytes number line))
 
 -- Whether bytes fit a buffer.

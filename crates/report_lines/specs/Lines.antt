@@ -2,14 +2,12 @@
 use Prim.Native.Nat.{ℕ}
 use mathlib.Core.Bool.{cond}
 use mathlib.Core.List.{List, [], _∷_, _++_}
+use lib.Dec.{eqb}
 use lib.IntN.{ℤ, pos}
 use lib.ListN.{getD}
 use Rattle.text.specs.Bytes.{bytes}
 use Rattle.text.specs.Decimal.{decimal}
 use Rattle.format.specs.declared.Sizes.{Sizes}
-use Rattle.model.specs.declared.Working.{Working}
-use Rattle.model.specs.Places.{isActive}
-use Rattle.model.specs.Working.{noWork}
 use Rattle.model.specs.Machine.{blockIn}
 use Rattle.runs.specs.Report.{fieldsBehind, lineOf, statusBytes, joined}
 
@@ -27,10 +25,10 @@ blocksBytes sizes bank store =
 abbrev pub openBytes : ℕ → ℤ → List ℕ
 openBytes k status = bytes "open" ++ fieldsBehind (decimal k ∷ statusBytes status ∷ [])
 
--- The lines of the active jobs, by the statuses and the working records.
-abbrev pub opensBytes : ℕ → List ℤ → List Working → List ℕ
-opensBytes jobs stat works =
-    joined jobs (λ k. cond (isActive (getD works k noWork .place)) (openBytes k (getD stat k (pos 0))) [])
+-- The lines of the active jobs, by the statuses and by which jobs are active.
+abbrev pub opensBytes : ℕ → List ℤ → List ℕ → List ℕ
+opensBytes jobs stat active =
+    joined jobs (λ k. cond (eqb (getD active k 0) 1) (openBytes k (getD stat k (pos 0))) [])
 
 -- The last line.
 abbrev pub endBytes : ℕ → ℕ → List ℕ

@@ -7,15 +7,15 @@ ghost use Prim.Native.Nat.{ℕ, _≤_, _<_, _+_, _*_};
 ghost use lib.IntN.{pos};
 ghost use lib.ListN.{length, getD, take};
 ghost use Rattle.text.specs.Bytes.{bytes};
+ghost use Rattle.layout.specs.PlanTable.{sizesIn};
 ghost use Rattle.model.specs.Machine.{blockIn};
-ghost use Rattle.model.specs.Places.{isActive};
 ghost use Rattle.model.specs.Ranges.{StatusIn};
 ghost use Rattle.runs.specs.Report.{lineOf, statusBytes};
+ghost use Rattle.cells.specs.CellTable.{places, bankAt, activeAt};
 ghost use Rattle.writes.specs.Writes.{Writes};
 ghost use Rattle.report_lines.specs.Lines.{rowLines, blocksBytes, openBytes, opensBytes, endBytes};
-use format::Sizes;
-use model::Place;
-use model::Working;
+use cells::CELL_PLACES;
+use layout::PLAN_PLACES;
 
 // "`commit entry job update`": the line of a row.
 fn put_commit(buffer: &mut [u8], at: usize, row: [u32; 3]) -> usize
@@ -56,19 +56,21 @@ fn put_block(buffer: &mut [u8], at: usize, words: usize, number: usize, store: &
 pub fn put_blocks(
     buffer: &mut [u8],
     at: usize,
-    sizes: Sizes,
-    bank: [u8; 16],
+    plan: &[u32; PLAN_PLACES],
+    cells: &[u32; CELL_PLACES],
     store: &[u32],
 ) -> usize
-    requires { ⌜ (sizes .blocks ≤ 16) × ((sizes .words ≤ 16) × (at + 3200 ≤ 4294967296)) ⌝ }
-    requires { ⌜ (length (now store) ≡ 2304) × ((b : ℕ) → getD bank b 0 < 144) ⌝ }
-    ensures { λ r. ⌜ Writes (blocksBytes sizes bank (now (store .entry))) 3200 at (now (buffer .entry)) r
-        (now (buffer .exit)) ⌝ }
+    requires { ⌜ (sizesIn (now plan) .blocks ≤ 16) × ((sizesIn (now plan) .words ≤ 16) × (at + 3200 ≤ 4294967296)) ⌝ }
+    requires { ⌜ (length (now store) ≡ 2304) × ((b : ℕ) → getD (places (now cells) bankAt 16) b 0 < 144) ⌝ }
+    ensures { λ r. ⌜ Writes
+        (blocksBytes (sizesIn (now (plan .entry))) (places (now (cells .entry)) bankAt 16) (now (store .entry))) 3200 at
+        (now (buffer .entry)) r (now (buffer .exit)) ⌝ }
 {
+    let sizes = layout::sizes(plan);
     let mut next = at;
     let mut b = 0;
     while b < sizes.blocks {
-        let number = bank[b] as usize;
+        let number = cells::bank(cells, b as u32) as usize;
         next = put_block(buffer, next, sizes.words, number, store);
         b += 1;
     }
@@ -88,12 +90,11 @@ fn put_status(buffer: &mut [u8], at: usize, status: i32) -> usize
 }
 
 // "`open job status`" of a job, where it is active.
-fn put_open(buffer: &mut [u8], at: usize, place: Place, k: usize, status: i32) -> usize
+fn put_open(buffer: &mut [u8], at: usize, active: bool, k: usize, status: i32) -> usize
     requires { ⌜ (at + 40 ≤ 4294967296) × ((k < 16) × StatusIn 16 status) ⌝ }
-    ensures { λ r. ⌜ Writes (cond (isActive place) (openBytes k status) []) 40 at (now (buffer .entry)) r
-        (now (buffer .exit)) ⌝ }
+    ensures { λ r. ⌜ Writes (cond active (openBytes k status) []) 40 at (now (buffer .entry)) r (now (buffer .exit)) ⌝ }
 {
-    if !judging::is_active(place) {
+    if !active {
         return at;
     }
     let tab = writes::put_bytes(buffer, at, b"open");
@@ -108,19 +109,21 @@ fn put_open(buffer: &mut [u8], at: usize, place: Place, k: usize, status: i32) -
 pub fn put_opens(
     buffer: &mut [u8],
     at: usize,
-    jobs: usize,
-    stat: [i32; 17],
-    works: [Working; 16],
+    plan: &[u32; PLAN_PLACES],
+    cells: &[u32; CELL_PLACES],
+    stat: &[i32; 17],
 ) -> usize
-    requires { ⌜ (jobs ≤ 16) × ((at + 640 ≤ 4294967296) × ((k : ℕ) → StatusIn 16 (getD stat k (pos 0)))) ⌝ }
-    ensures { λ r. ⌜ Writes (opensBytes jobs stat works) 640 at (now (buffer .entry)) r (now (buffer .exit)) ⌝ }
+    requires { ⌜ (sizesIn (now plan) .jobs ≤ 16) × ((at + 640 ≤ 4294967296)
+        × ((k : ℕ) → StatusIn 16 (getD (now stat) k (pos 0)))) ⌝ }
+    ensures { λ r. ⌜ Writes
+        (opensBytes (sizesIn (now (plan .entry)) .jobs) (now (stat .entry)) (places (now (cells .entry)) activeAt 16))
+        640 at (now (buffer .entry)) r (now (buffer .exit)) ⌝ }
 {
+    let jobs = layout::jobs(plan) as usize;
     let mut next = at;
     let mut k = 0;
     while k < jobs {
-        let w = works[k];
-        let place = w.place;
-        next = put_open(buffer, next, place, k, stat[k]);
+        next = put_open(buffer, next, cells::is_active(cells, k), k, stat[k]);
         k += 1;
     }
     next

@@ -1,25 +1,36 @@
 -- What running an accepted text asks and gives. Assumes nothing.
-use Prim.Native.Nat.{ℕ, _≤_}
-use mathlib.Core.Path.{_≡_, sym, ap, subst}
-use mathlib.Core.List.{List}
+use Prim.Native.Nat.{ℕ, zero, suc, _≤_, _<_}
+use mathlib.Core.Path.{_≡_, refl, sym, _∙_, ap, subst}
+use mathlib.Core.List.{List, [], _∷_}
 use mathlib.Core.Option.{Option, none, some}
-use lib.ListN.{length}
+use native.Mathlib.Omega.{arith}
+use lib.IntN.{ℤ}
+use lib.ListN.{length, getD, take, length-map, List·getD-map}
+use Rattle.format.specs.declared.Entry.{Entry}
 use Rattle.format.specs.declared.Fault.{Fault}
 use Rattle.format.specs.declared.Form.{Form}
+use Rattle.format.specs.Plan.{Listed}
 use Rattle.format.specs.Sound.{Sound}
 use Rattle.format.specs.Reading.{refusal, reading}
 use Rattle.format.proofs.Sound.{accepted-sound, accepted-few}
 use Rattle.format.proofs.Lines.{low-count, low-lines}
+use Rattle.format.proofs.Tables.{length-table, getD-table}
 use Rattle.layout.specs.PlanTable.{planIn}
-use Rattle.layout.specs.EntryTable.{listedIn}
+use Rattle.layout.specs.EntryTable.{listedAt, listedIn}
 use Rattle.model.specs.declared.Refusal.{Refusal}
-use Rattle.model.specs.Machine.{openingStore}
 use Rattle.model.specs.History.{Run, runOf}
 use Rattle.runs.specs.declared.End.{End}
-use Rattle.runs.specs.Report.{endLine}
-use Rattle.runs.specs.Runs.{refused, endOf, outcomeOf, lineIn, ofReading, runText}
-use Rattle.running.specs.Schedules.{entriesIn, emptyRows, Lent, Starts}
-use Rattle.text_entries.proofs.Text.{entries-many}
+use Rattle.runs.specs.Report.{endNumber, endLine}
+use Rattle.runs.specs.Runs.{Outcome, refused, reported, endOf, outcomeOf, lineIn, ofReading, runText}
+use Rattle.cells.specs.Tables.{Tables, lent}
+use Rattle.cells.specs.Book.{bookOf}
+use Rattle.judge.specs.Rulings.{haltOf}
+use Rattle.open_tables.specs.Opened.{emptyRows, Opened}
+use Rattle.run_loop.specs.Reached.{Starts, Ran}
+use Rattle.run_loop.proofs.Starting.{opened-starts}
+use Rattle.record_list.specs.Records.{entriesIn}
+use Rattle.report.specs.Writing.{Reportable, reportBytes}
+use Rattle.ending.proofs.Outcome.{reportable-rowless, reportable, end-is, the-outcome}
 use Rattle.text_run.specs.Reads.{Reads}
 
 -- A refused text.
@@ -28,48 +39,96 @@ pub refused-text : (text : List ℕ) (f : Fault) (n : ℕ) → refusal f n ≡ r
 unfolding runText
 refused-text text f n e = sym (ap ofReading e)
 
-module _ (text plan entries : List ℕ) (count lines : ℕ) (read : Reads text plan entries count lines) where
-  -- The plan is sound.
-  pub sound-plan : Sound (planIn plan)
-  sound-plan = accepted-sound Form.Schedule text (planIn plan) (listedIn count entries) lines (sym read)
+-- What stands for an entry where there is none.
+abbrev no-entry : Listed
+no-entry = record { entry = record { kind = 0; first = 0; second = 0 }; line = 0 }
 
-  -- The run starts, with the opening memory put in.
-  pub the-start : (x : Lent) → x .store ≡ openingStore (planIn plan) → x .addr ≡ emptyRows → x .old ≡ emptyRows
-      → x .new ≡ emptyRows → length (x .commits) ≡ 4000 → Starts (planIn plan) (entriesIn (listedIn count entries)) x
-  the-start x s a o n r =
-      record {
-        sound = sound-plan;
-        few =
-            subst (λ k. k ≤ 4000) (sym (entries-many (listedIn count entries)))
-            (accepted-few Form.Schedule text (planIn plan) (listedIn count entries) lines (sym read));
-        store-is = s;
-        addr-is = a;
-        old-is = o;
-        new-is = n;
-        all-rows = r;
-      }
+-- A list has nothing past its end.
+past : {A : Type 0} (l : List A) (i : ℕ) (d : A) → length l ≤ i → getD l i d ≡ d
+past [] i d h = refl
+past (x ∷ l) zero d h = absurd (omega arith)
+past (x ∷ l) (suc i) d h = past l i d (omega arith)
+
+-- The line of an entry that is there,
+pub line-there : (n i : ℕ) (entries : List ℕ) → i < n → lineIn (listedIn n entries) i ≡ listedAt entries i .line
+line-there n i entries h =
+    List·getD-map (λ (l : Listed). l .line) (listedIn n entries) i no-entry
+    ∙ ap (λ (l : Listed). l .line) (getD-table n (listedAt entries) no-entry i h)
+
+-- and of one that is not.
+pub line-past : (n i : ℕ) (entries : List ℕ) → n ≤ i → lineIn (listedIn n entries) i ≡ 0
+line-past n i entries h =
+    List·getD-map (λ (l : Listed). l .line) (listedIn n entries) i no-entry
+    ∙ ap (λ (l : Listed). l .line)
+    (past (listedIn n entries) i no-entry (omega (arith, length-table n (listedAt entries))))
+
+-- There are as many entries without their lines.
+entries-many : (ls : List Listed) → length (entriesIn ls) ≡ length ls
+entries-many ls = length-map ls (λ (l : Listed). l .entry)
+
+module _ (text t entries : List ℕ) (count lines : ℕ) (read : Reads text t entries count lines) where
+  -- The entries of the text.
+  abbrev es : List Entry
+  es = entriesIn (listedIn count entries)
+
+  -- The plan is sound.
+  pub sound-plan : Sound (planIn t)
+  sound-plan = accepted-sound Form.Schedule text (planIn t) (listedIn count entries) lines (sym read)
+
+  -- There are few entries.
+  few-listed : length (listedIn count entries) ≤ 4000
+  few-listed = accepted-few Form.Schedule text (planIn t) (listedIn count entries) lines (sym read)
+
+  pub few-entries : count ≤ 4000
+  few-entries = omega (arith, few-listed, length-table count (listedAt entries))
+
+  few-es : length es ≤ 4000
+  few-es = omega (arith, few-listed, entries-many (listedIn count entries))
+
+  -- The entries can start, as records, where the tables are opened.
+  pub the-start : (cells : List ℕ) (stat : List ℤ) (store : List ℕ) (commits : List (List ℕ)) (list : List Entry)
+      → Opened t cells stat store → length commits ≡ 4000 → take count list ≡ es
+      → Starts t (take count list) (lent cells stat store emptyRows emptyRows emptyRows commits)
+  the-start cells stat store commits list o all is =
+      subst (λ l. Starts t l (lent cells stat store emptyRows emptyRows emptyRows commits)) (sym is)
+      (opened-starts sound-plan o es few-es commits all)
 
   -- The line of the end is one of the text's.
-  pub low-end : (end : End)
-      → end
-      ≡ endOf (runOf (planIn plan) (entriesIn (listedIn count entries)) .refusal)
-      (lineIn (listedIn count entries) (length (runOf (planIn plan) (entriesIn (listedIn count entries)) .history)))
-      lines
+  low-end : (end : End)
+      → end ≡ endOf (runOf (planIn t) es .refusal)
+      (lineIn (listedIn count entries) (length (runOf (planIn t) es .history))) lines
       → endLine end ≤ 65536
-  low-end end is =
-      subst (λ e. endLine e ≤ 65536) (sym is) (by (run .refusal))
+  low-end end is = subst (λ e. endLine e ≤ 65536) (sym is) (by (run .refusal))
     where
       run : Run
-      run = runOf (planIn plan) (entriesIn (listedIn count entries))
+      run = runOf (planIn t) es
 
       by : (f : Option Refusal)
           → endLine (endOf f (lineIn (listedIn count entries) (length (run .history))) lines) ≤ 65536
-      by none = low-count Form.Schedule text (planIn plan) (listedIn count entries) lines (sym read)
-      by (some x) = low-lines Form.Schedule text (planIn plan) (listedIn count entries) lines (sym read) _
+      by none = low-count Form.Schedule text (planIn t) (listedIn count entries) lines (sym read)
+      by (some x) = low-lines Form.Schedule text (planIn t) (listedIn count entries) lines (sym read) _
 
-  -- What the entries come to is what the text does.
-  pub the-run :
-      outcomeOf (planIn plan) (entriesIn (listedIn count entries)) (lineIn (listedIn count entries))
-      lines ≡ runText text
-  unfolding runText
-  the-run = ap ofReading read
+  -- The entries have run.
+  module _ (x : Tables) (list : List Entry) (is : take count list ≡ es)
+      (ran : Ran t (take count list) (take count list) x) (end : End)
+      (so : end ≡ endOf (haltOf (bookOf x .halt)) (lineIn (listedIn count entries) (bookOf x .entries)) lines) where
+    all-ran : Ran t es es x
+    all-ran = subst (λ l. Ran t l l x) is ran
+
+    the-end : end ≡ endOf (runOf (planIn t) es .refusal)
+        (lineIn (listedIn count entries) (length (runOf (planIn t) es .history))) lines
+    the-end = so ∙ end-is sound-plan few-es (all-ran .1) (lineIn (listedIn count entries)) lines
+
+    -- What writing the report asks,
+    pub to-report : Reportable t (lent (x .cells) (x .stat) (x .store) [] [] [] (x .commits))
+    to-report = reportable-rowless (reportable sound-plan few-es (all-ran .1))
+
+    pub low-line : endLine end ≤ 65536
+    low-line = low-end end the-end
+
+    -- and what is written.
+    pub the-run : reported end (reportBytes t x (endNumber end) (endLine end)) ≡ runText text
+    unfolding runText
+    the-run =
+        the-outcome sound-plan few-es (all-ran .1) (lineIn (listedIn count entries)) lines end the-end
+        ∙ ap ofReading read

@@ -1,15 +1,14 @@
 // A whole text, run: it is read, its entries run one after another, and the report is written into the lent buffer.
 ghost use mathlib.Core.Path.{_≡_};
 ghost use mathlib.Core.List.{List};
-ghost use Prim.Native.Nat.{ℕ};
+ghost use Prim.Native.Nat.{ℕ, _≤_};
 ghost use lib.ListN.{length};
 ghost use Rattle.layout.specs.PlanTable.{emptyPlan};
-ghost use Rattle.layout.specs.EntryTable.{entryPlaces};
-ghost use Rattle.opening.specs.Store.{emptyStore};
-ghost use Rattle.runs.specs.Runs.{runText};
-ghost use Rattle.running.specs.Schedules.{emptyRows};
+ghost use Rattle.layout.specs.EntryTable.{listedIn, entryPlaces};
+ghost use Rattle.runs.specs.Runs.{runText, lineIn};
 ghost use Rattle.ending.specs.Finishing.{WrittenOut};
 ghost use Rattle.text_run.specs.Reads.{Reads};
+use cells::CELL_PLACES;
 use ending::Finished;
 use format::Form;
 use format::Verdict;
@@ -17,42 +16,19 @@ use layout::ENTRY_PLACES;
 use layout::PLAN_PLACES;
 use runs::End;
 
-// An accepted text is run in arrays that are lent: the store is zero until the opening memory is put in, and the rows
-// are empty.
-fn run_lent(
-    plan: &[u32; PLAN_PLACES],
-    entries: &[u32; ENTRY_PLACES],
-    count: usize,
-    lines: usize,
-    store: &mut [u32],
-    addr: &mut [[u8; 16]; 16],
-    old: &mut [[u8; 16]; 16],
-    new: &mut [[u8; 16]; 16],
-    commits: &mut [[u32; 3]; 4000],
-    buffer: &mut [u8],
-) -> Finished
-    requires { ⌜ ((text : List ℕ) × Reads text (now plan) (now entries) count lines) ⌝ }
-    requires { ⌜ (now store ≡ emptyStore) × ((now addr ≡ emptyRows) × ((now old ≡ emptyRows)
-        × ((now new ≡ emptyRows) × (length (now commits) ≡ 4000)))) ⌝ }
-    ensures { λ r. ⌜ ((text : List ℕ) → Reads text (now (plan .entry)) (now (entries .entry)) count lines
-        → WrittenOut (runText text) (now (buffer .entry)) r (now (buffer .exit))) ⌝ }
+// The line of entry i, from 0, of the first n, 0 where there is none.
+fn line_of(entries: &[u32; ENTRY_PLACES], n: usize, i: usize) -> usize
+    requires { ⌜ n ≤ 4000 ⌝ }
+    ensures { λ r. ⌜ r ≡ lineIn (listedIn n (now (entries .entry))) i ⌝ }
 {
-    opening::open_store(plan, store);
-    let ran = text_entries::run_entries(
-        plan,
-        entries,
-        count,
-        lines,
-        store,
-        addr,
-        old,
-        new,
-        commits,
-    );
-    ending::finish(buffer, layout::sizes(plan), ran, store, commits)
+    if i < n {
+        return layout::line_at(entries, i);
+    }
+    0
 }
 
-// An accepted text is run. The arrays are made here, and lent.
+// An accepted text is run. The machine's tables are made here, and lent: the store is zero until the opening memory is
+// put in, and the rows are empty.
 fn run_plan(
     plan: &[u32; PLAN_PLACES],
     entries: &[u32; ENTRY_PLACES],
@@ -64,25 +40,31 @@ fn run_plan(
     ensures { λ r. ⌜ ((text : List ℕ) → Reads text (now (plan .entry)) (now (entries .entry)) count lines
         → WrittenOut (runText text) (now (buffer .entry)) r (now (buffer .exit))) ⌝ }
 {
+    let mut cells = [0u32; CELL_PLACES];
+    let mut stat = [0i32; 17];
     let mut store = [0u32; 2304];
-    let empty = [0u8; 16];
+    let empty = [0u32; 16];
     let mut addr = [empty; 16];
     let mut old = [empty; 16];
     let mut new = [empty; 16];
     let none = [0u32; 3];
     let mut commits = [none; 4000];
-    run_lent(
-        plan,
-        entries,
+    open_tables::open(plan, &mut cells, &mut stat, &mut store);
+    record_list::run_list(
+        record_list::records_of(entries, count),
         count,
-        lines,
+        plan,
+        &mut cells,
+        &mut stat,
         &mut store,
         &mut addr,
         &mut old,
         &mut new,
         &mut commits,
-        buffer,
-    )
+    );
+    let line = line_of(entries, count, cells::entries(&cells) as usize);
+    let end = ending::end_of(cells::halt(&cells), line, lines);
+    ending::finish(buffer, plan, &cells, &stat, &store, &commits, end)
 }
 
 // A text is read into the tables, and run. The whole text is checked for 1 to 10 before any entry runs.

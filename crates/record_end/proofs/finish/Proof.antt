@@ -15,8 +15,8 @@ same-length : tie.Need-same-length
 same-length c = search needs
 
 returns : tie.Need-returns
-returns c text es k =
-    let w = c .before .before .before .report-of .ensures text es k in
+returns c text es addr old new k =
+    let w = c .before .before .before .report-of .ensures text es addr old new k in
     (c .ended-of .ensures ∙ ended-as w, w .left-is)
 
 pub finish-spec : {M : Type 1} → statement M

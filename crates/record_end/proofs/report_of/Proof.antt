@@ -1,119 +1,136 @@
 -- `report_of` meets its contract. Assumes nothing.
 use Prim.Native.Nat.{ℕ, _+_, _≤_}
-use mathlib.Core.Path.{_≡_, refl, sym, _∙_, ap}
+use mathlib.Core.Path.{_≡_, sym, _∙_, ap, subst}
 use mathlib.Core.List.{List}
 use native.Mathlib.Omega.{arith}
-use borrow.Author.Needs.{needs}
 use denote.Ref.{now}
 use lib.ListN.{length}
 use Rattle.format.specs.declared.Entry.{Entry}
 use Rattle.runs.specs.Runs.{endOf}
-use Rattle.running.specs.Schedules.{refusalOf}
-use Rattle.running.specs.Rans.{ranOf}
+use Rattle.cells.specs.Tables.{Tables, lent}
+use Rattle.cells.specs.Book.{bookOf}
+use Rattle.judge.specs.Rulings.{haltOf}
+use Rattle.run_loop.specs.Reached.{placeOf, Ran}
 use Rattle.ending.proofs.Written.{same-outcome, refused-out}
-use Rattle.record_run.specs.Records.{Ran, Closing}
-use Rattle.record_end.proofs.Outcomes.{
-  refused-text,
-  too-many,
-  misplaced,
-  few-accepted,
-  small,
-  in-ranges,
-  low-place,
-  written,
-}
+use Rattle.record_run.specs.Records.{Accepts, Closing}
+use Rattle.record_end.proofs.Outcomes.{refused-text, too-many, misplaced, to-report, low-place, written}
+use borrow.Author.Needs.{needs}
 use Rattle.record_end.proofs.report_of.Statement.{statement}
 use Rattle.record_end.proofs.report_of.Tie as tie
+
+-- The tables, with these rows.
+abbrev tables : tie.Start → List (List ℕ) → List (List ℕ) → List (List ℕ) → Tables
+tables s addr old new =
+    let a = s .args in
+    lent (now (a .cells)) (now (a .stat)) (now (a .store)) addr old new (now (a .commits))
+
+-- The start, from where the records are not too many.
+abbrev start : tie.Else1 → tie.Start
+start c = c .before .before .before .before .before
+
+-- What is known.
+abbrev Known : tie.Start → List ℕ → List Entry → List (List ℕ) → List (List ℕ) → List (List ℕ) → Type 0
+Known s text es addr old new =
+    Closing text es (s .args .verdict) (s .args .count) (now (s .args .plan)) (tables s addr old new)
 
 enum-known-verdict : tie.Need-enum-known-verdict
 enum-known-verdict c = search needs
 
 returns : tie.Need-returns
-returns c text es k =
-    let v = c .before in
-    refused-out _ _ _ (refused-text text es _ _ (k .verdict-is ∙ v .verdict .given .1))
+returns c text es addr old new k =
+    refused-out _ _ _ (refused-text text es _ _ (k .verdict-is ∙ c .before .verdict .given .1))
 
 enum-told : tie.Need-enum-told
 enum-told c = search needs
 
-add-t19 : tie.Need-add-t19
-add-t19 c = search needs
+add-t17 : tie.Need-add-t17
+add-t17 c = search needs
 
 returns-2 : tie.Need-returns-2
-returns-2 c text es k =
+returns-2 c text es addr old new k =
     refused-out _ _ _
-    (too-many text es _ (k .verdict-is ∙ c .before .enum-told .given .1)
-    (omega (arith, k .counted, c .if1 .taken)))
+    (too-many text es _ (k .verdict-is ∙ c .before .enum-told .given .1) (omega (arith, k .counted, c .if1 .taken)))
 
--- What is known, from where the records are not too many.
-abbrev Known : tie.Else1 → List ℕ → List Entry → Type 0
-Known c text es =
-    let a = c .before .before .before .before .before .args in
-    Closing text es (a .verdict) (a .count) (a .sizes) (a .walk) (now (a .store)) (now (a .commits))
+-- Few records have run beside an accepted text.
+module _ (c : tie.Else1) {text : List ℕ} {es : List Entry} {addr old new : List (List ℕ)}
+    (k : Known (start c) text es addr old new) where
+  few : length es ≤ 4000
+  few = omega (arith, k .counted, c .if1 .left)
 
--- The records have run.
-ran : (c : tie.Else1) (text : List ℕ) (es : List Entry) → Known c text es →
-    let a = c .before .before .before .before .before .args in
-    Ran text es (c .before .enum-told .given .0 .0) (a .sizes) (a .walk) (now (a .store)) (now (a .commits))
-ran c text es k = k .ran _ (c .before .enum-told .given .1) (c .if1 .left)
+  ran : Accepts text (c .before .enum-told .given .0 .0) (now (start c .args .plan))
+      × Ran (now (start c .args .plan)) es es (tables (start c) addr old new)
+  ran = k .ran _ (c .before .enum-told .given .1) (c .if1 .left)
 
--- They are few.
-few : (c : tie.Else1) (text : List ℕ) (es : List Entry) → Known c text es → length es ≤ 4000
-few c text es k = omega (arith, k .counted, c .if1 .left)
+other-requires : tie.Need-other-requires
+other-requires c κs = search needs
+
+cast-other : tie.Need-cast-other
+cast-other c = search needs
 
 returns-3 : tie.Need-returns-3
-returns-3 c text es k =
-    let e = c .before in
-    let r = ran e text es k in
+returns-3 c text es addr old new k =
+    let o = c .before in
+    let r = ran (o .before) k in
     refused-out _ _ _
-    (misplaced text es (r .plan) (r .listed) _ (r .read) (few e text es k) _ (r .walked .other-is) (c .if2 .taken))
+    (misplaced text es _ (r .0 .listed) _ (r .0 .read) (few (o .before) k) _
+    (ap placeOf (o .other .ensures) ∙ r .1 .1 .other-is) (c .if2 .taken))
 
--- The start, with what is known.
-abbrev start-of : tie.Else1 → tie.Start
-start-of c = c .before .before .before .before .before
+entries-requires : tie.Need-entries-requires
+entries-requires c κs = search needs
+
+cast-accepted : tie.Need-cast-accepted
+cast-accepted c = search needs
+
+halt-requires : tie.Need-halt-requires
+halt-requires c κs = search needs
+
+add-end-of : tie.Need-add-end-of
+add-end-of c = search needs
 
 end-of-requires : tie.Need-end-of-requires
-end-of-requires c κs =
-    let e = c .before .before .before in
-    let p = start-of e .pre in
-    few-accepted (ran e (p .0) (p .1) (p .2)) (few e (p .0) (p .1) (p .2)) _ refl
+end-of-requires c κs = search needs
 
-ran-of-requires : tie.Need-ran-of-requires
-ran-of-requires c κs = search needs
+-- Where no record is of another kind, from where the end is known.
+abbrev none-other : tie.After-end-of → tie.Else1
+none-other c = c .before .before .before .before .before
 
--- What the run came to.
-came-to : (c : tie.After-ran-of) (text : List ℕ) (es : List Entry)
-    → Known (c .before .before .before .before .before) text es →
-    let w = start-of (c .before .before .before .before .before) .args .walk in
-    c .ran-of .result
-    ≡ ranOf (w .progress) (endOf (refusalOf (w .progress .halt)) (w .progress .state .entries + 1) (length es))
-came-to c text es k =
-    let w = start-of (c .before .before .before .before .before) .args .walk in
-    c .ran-of .ensures
-    ∙ ap (ranOf (w .progress))
-    (c .before .end-of .ensures
-    ∙ ap (endOf (refusalOf (w .progress .halt)) (w .progress .state .entries + 1)) (sym (k .counted)))
+-- The end of the run.
+end-so : (c : tie.After-end-of) {text : List ℕ} {es : List Entry} {addr old new : List (List ℕ)}
+    → Known (start (none-other c)) text es addr old new →
+    let x = tables (start (none-other c)) addr old new in
+    c .end-of .result ≡ endOf (haltOf (bookOf x .halt)) (bookOf x .entries + 1) (length es)
+end-so c {es = es} {addr = addr} {old = old} {new = new} k =
+    let x = tables (start (none-other c)) addr old new in
+    let h = c .before in
+    c .end-of .ensures
+    ∙ ap (λ n. endOf (haltOf n) (h .before .entries .result + 1) (start (none-other c) .args .count)) (h .halt .ensures)
+    ∙ ap (λ n. endOf (haltOf (bookOf x .halt)) (n + 1) (start (none-other c) .args .count))
+    (h .before .entries .ensures)
+    ∙ ap (endOf (haltOf (bookOf x .halt)) (bookOf x .entries + 1)) (sym (k .counted))
 
 finish-requires : tie.Need-finish-requires
 finish-requires c κs =
-    let y = c .before in
-    let e = y .before .before .before .before .before in
-    let p = start-of e .pre in
-    let r = ran e (p .0) (p .1) (p .2) in
-    let f = few e (p .0) (p .1) (p .2) in
-    let is = came-to y (p .0) (p .1) (p .2) in
-    (small r f _ is, (in-ranges r f _ is, low-place r f _ is))
+    let e = c .before in
+    let n = none-other e in
+    let k = start n .pre .5 in
+    let r = ran n k in (
+      to-report (r .0) (r .1) (few n k) (e .end-of .result) (end-so e k),
+      low-place (r .0) (r .1) (few n k) (e .end-of .result) (end-so e k),
+    )
 
 same-length : tie.Need-same-length
 same-length c = search needs
 
 returns-4 : tie.Need-returns-4
-returns-4 c text es k =
+returns-4 c text es addr old new k =
     let f = c .before .before in
-    let y = f .before .before in
-    let e = y .before .before .before .before .before in
+    let e = f .before .before in
+    let n = none-other e in
+    let r = ran n k in
+    let o = e .before .before .before .before in
     same-outcome
-    (written (ran e text es k) (few e text es k) _ (came-to y text es k) (y .before .before .before .before .if2 .left))
+    (written (r .0) (r .1) (few n k) (e .end-of .result) (end-so e k)
+    (subst (λ m. m ≤ 0) (o .other .ensures) (omega (arith, e .before .before .before .if2 .left))))
     (f .finish .ensures)
 
 pub report-of-spec : {M : Type 1} → statement M
@@ -123,11 +140,16 @@ report-of-spec =
     enum-known-verdict
     returns
     enum-told
-    add-t19
+    add-t17
     returns-2
+    other-requires
+    cast-other
     returns-3
+    entries-requires
+    cast-accepted
+    halt-requires
+    add-end-of
     end-of-requires
-    ran-of-requires
     finish-requires
     same-length
     returns-4)

@@ -1,6 +1,6 @@
 -- `put_blocks` writes a line for each block, with the words that the bank leads to. Assumes nothing.
-use Prim.Native.Nat.{ℕ, _-_, _*_, _≤_, _<_}
-use mathlib.Core.Path.{_≡_}
+use Prim.Native.Nat.{ℕ, _-_, _*_, _≤_}
+use mathlib.Core.Path.{_≡_, ap}
 use mathlib.Core.List.{List}
 use native.Mathlib.Omega.{arith}
 use denote.Ref.{now}
@@ -9,8 +9,10 @@ use Rattle.text.specs.Bytes.{bytes}
 use Rattle.format.specs.declared.Sizes.{Sizes}
 use Rattle.model.specs.Machine.{blockIn}
 use Rattle.runs.specs.Report.{joined, lineOf}
+use Rattle.cells.specs.CellTable.{places, bankAt}
 use Rattle.writes.specs.Writes.{Writes}
-use Rattle.writes.proofs.Writes.{nothing, turn, widen, keeps}
+use Rattle.report_lines.specs.Lines.{blocksBytes}
+use Rattle.writes.proofs.Writes.{nothing, turn, widen, renamed, keeps}
 use Rattle.report_lines.proofs.put_blocks.Statement.{statement}
 use Rattle.report_lines.proofs.put_blocks.Tie as tie
 
@@ -19,35 +21,51 @@ abbrev one : Sizes → List ℕ → List ℕ → ℕ → List ℕ
 one sizes bank store b = lineOf (bytes "block") (blockIn (sizes .words) store (getD bank b 0))
 
 abbrev Inv-loop : tie.InvT-loop
-Inv-loop buffer₀ at sizes store bank next₀ b₀ buffer next b =
-    (b ≤ sizes .blocks) × Writes (joined b (one sizes bank store)) (200 * b) at buffer₀ next buffer
+Inv-loop buffer₀ at plan cells store sizes next₀ b₀ buffer next b =
+    (b ≤ sizes .blocks)
+    × Writes (joined b (one sizes (places cells bankAt 16) store)) (200 * b) at buffer₀ next buffer
 
 abbrev μ-loop : tie.MeasureT-loop
-μ-loop buffer₀ at sizes store bank next₀ b₀ buffer next b = sizes .blocks - b
+μ-loop buffer₀ at plan cells store sizes next₀ b₀ buffer next b = sizes .blocks - b
+
+sizes-requires : tie.Need-sizes-requires Inv-loop μ-loop
+sizes-requires c κs = tt
 
 loop-holds : tie.Need-loop-holds Inv-loop μ-loop
 loop-holds c = (omega arith, nothing _ _)
 
--- What the bank has for a block is a block number.
-bank-small : (c : tie.Then1 Inv-loop μ-loop) →
-    let l = c .before .before in
-    getD (l .before .before .before .args .t4) (l .loop .b) 0 < 144
-bank-small c =
-    let l = c .before .before in
-    l .before .before .before .pre .1 .1 (l .loop .b)
+-- The sizes that the code has are in their ranges.
+module _ (c : tie.After-sizes Inv-loop μ-loop) where
+  few-blocks : c .sizes .result .blocks ≤ 16
+  few-blocks =
+      omega (arith, c .before .before .before .pre, ap (λ (s : Sizes). s .blocks) (c .sizes .ensures))
 
-array-read-number : tie.Need-array-read-number Inv-loop μ-loop
-array-read-number c = omega arith
+  few-words : c .sizes .result .words ≤ 16
+  few-words =
+      omega (arith, c .before .before .before .pre, ap (λ (s : Sizes). s .words) (c .sizes .ensures))
+
+cast-bank : tie.Need-cast-bank Inv-loop μ-loop
+cast-bank c = omega (arith, few-blocks (c .before .before .before))
+
+bank-requires : tie.Need-bank-requires Inv-loop μ-loop
+bank-requires c κs = omega (arith, few-blocks (c .before .before .before))
 
 cast-number : tie.Need-cast-number Inv-loop μ-loop
-cast-number c = omega (arith, bank-small c)
+cast-number c = omega arith
 
 put-block-requires : tie.Need-put-block-requires Inv-loop μ-loop
 put-block-requires c κs =
-    ((omega arith, omega arith), (omega arith, omega (arith, bank-small (c .before))))
+    let n = c .before in
+    let l = n .before .before .before in
+    let start = l .before .before .before .before in
+    let few = few-blocks (l .before) in
+    let low = start .pre .1 .1 (l .loop .b) in
+    ((few-words (l .before), omega (arith, few)), (start .pre .1 .0, omega (arith, few, n .bank .ensures 0, low)))
 
 add-b : tie.Need-add-b Inv-loop μ-loop
-add-b c = omega arith
+add-b c =
+    let l = c .before .before .before .before .before .before .before in
+    omega (arith, few-blocks (l .before))
 
 loop-less : tie.Need-loop-less Inv-loop μ-loop
 loop-less c = omega arith
@@ -55,17 +73,22 @@ loop-less c = omega arith
 loop-again : tie.Need-loop-again Inv-loop μ-loop
 loop-again c =
     let p = c .before .before in
-    let l = p .before .before .before .before in
-    let a = l .before .before .before .args in
-    let line = one (a .sizes) (a .t4) (now (a .store)) in
-    (omega arith, turn (l .loop .b) line (l .loop .inv .1) (p .put-block .ensures))
+    let n = p .before .before in
+    let l = n .before .before .before in
+    let a = l .before .before .before .before .args in
+    let sizes = l .before .sizes .result in
+    let line = one sizes (places (now (a .cells)) bankAt 16) (now (a .store)) in
+    let e = ap (λ k. lineOf (bytes "block") (blockIn (sizes .words) (now (a .store)) k)) (n .bank .ensures 0) in
+    (omega arith, turn (l .loop .b) line (l .loop .inv .1) (renamed _ e (p .put-block .ensures)))
 
 returns : tie.Need-returns Inv-loop μ-loop
 returns c =
     let l = c .before .before in
-    let a = l .before .before .before .args in
-    let b : l .loop .b ≡ a .sizes .blocks = omega arith in
-    widen 3200 (omega arith) (rw b at (l .loop .inv .1))
+    let z = l .before in
+    let a = z .before .before .before .args in
+    let b : l .loop .b ≡ z .sizes .result .blocks = omega arith in
+    let e = ap (λ s. blocksBytes s (places (now (a .cells)) bankAt 16) (now (a .store))) (z .sizes .ensures) in
+    renamed _ e (widen 3200 (omega (arith, few-blocks z)) (rw b at (l .loop .inv .1)))
 
 same-length : tie.Need-same-length Inv-loop μ-loop
 same-length c = keeps (returns c)
@@ -76,8 +99,10 @@ put-blocks-spec =
     (tie.spec
     Inv-loop
     μ-loop
+    sizes-requires
     loop-holds
-    array-read-number
+    cast-bank
+    bank-requires
     cast-number
     put-block-requires
     add-b

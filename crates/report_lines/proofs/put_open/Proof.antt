@@ -1,5 +1,5 @@
 -- `put_open` writes nothing for a job that is not active, and else its fields one behind the other. Assumes nothing.
-use mathlib.Core.Path.{ap, sym, _∙_}
+use mathlib.Core.Path.{ap}
 use native.Mathlib.Omega.{arith}
 use borrow.Author.Needs.{needs}
 use borrow.Author.Tests.{not-true, not-false}
@@ -10,13 +10,9 @@ use Rattle.writes.proofs.Writes.{nothing, then, widen, renamed}
 use Rattle.report_lines.proofs.put_open.Statement.{statement}
 use Rattle.report_lines.proofs.put_open.Tie as tie
 
-is-active-requires : tie.Need-is-active-requires
-is-active-requires c κs = search needs
-
 returns : tie.Need-returns
 returns c =
-    let told = c .before .is-active in
-    let idle = sym (told .ensures) ∙ not-true (told .result) (c .if1 .taken) in
+    let idle = not-true (c .before .before .args .active) (c .if1 .taken) in
     rw idle (widen 40 (omega arith) (nothing _ _))
 
 slice-aggregate-put-bytes : tie.Need-slice-aggregate-put-bytes
@@ -55,9 +51,8 @@ returns-2 c =
     let tab = job .before .before .before .before in
     let first = tab .before .before .before .before in
     let test = first .before .before .before in
-    let told = test .before .is-active in
-    let active = sym (told .ensures) ∙ not-false (told .result) (test .if1 .left) in
-    let start = first .before .before .before .before .before .before in
+    let start = test .before .before in
+    let active = not-false (start .args .active) (test .if1 .left) in
     let z = start .args .status in
     -- A signed number goes through a call as its bits.
     let e = ap statusBytes (toZ-ofZ w32 z (start .fits .status)) in
@@ -73,7 +68,6 @@ pub put-open-spec : {M : Type 1} → statement M
 put-open-spec =
     tie.close
     (tie.spec
-    is-active-requires
     returns
     slice-aggregate-put-bytes
     put-bytes-requires

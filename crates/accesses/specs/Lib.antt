@@ -1,0 +1,2 @@
+-- Registers on to the next read or write.
+pub mod Onward

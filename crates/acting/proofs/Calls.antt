@@ -1,0 +1,109 @@
+-- A call put into the cells: the update, that the job is active, and one more entry. Assumes nothing.
+use Prim.Native.Nat.{ℕ, _+_, _*_, _≤_, _<_}
+use mathlib.Core.Path.{_≡_, refl, sym, _∙_, ap, subst}
+use mathlib.Core.Logic.{_≢_, _⊎_, inl, inr}
+use mathlib.Core.List.{List}
+use native.Mathlib.Decide.{decLt}
+use native.Mathlib.Omega.{arith}
+use lib.IntN.{ℤ}
+use lib.ListN.{length, getD, set}
+use lib.Seq.{getD-set-same}
+use Rattle.layout.specs.PlanTable.{sizesIn, jobAt}
+use Rattle.cells.specs.CellTable.{places, Only, cellPlaces, entriesAt, activeAt}
+use Rattle.cells.specs.CellTable.{runningAt, ownAt, dirtyAt, currAt, copyAt, updateAt}
+use Rattle.cells.specs.Tables.{Tables, ownOf, cellsOf}
+use Rattle.cells.specs.Book.{Book, bookOf, firstOn, turned, counted}
+use Rattle.cells.proofs.Places.{only-set, only-then, places-out}
+use Rattle.cells.proofs.Views.{own-out, cells-out, cells-free}
+use Rattle.cells.proofs.Books.{OnlyCells, book-out, book-turned, counted-so}
+use Rattle.acting.specs.Stepping.{calledWith, Called}
+
+-- The tables with other cells.
+abbrev with-cells : Tables → List ℕ → Tables
+with-cells x l =
+    record {
+      cells = l;
+      stat = x .stat;
+      store = x .store;
+      addr = x .addr;
+      old = x .old;
+      new = x .new;
+      commits = x .commits;
+    }
+
+-- Only their cells differ.
+only-cells : (x : Tables) (k l : List ℕ) → OnlyCells (with-cells x k) (with-cells x l)
+only-cells x k l = record { stat = refl; store = refl; addr = refl; old = refl; new = refl; commits = refl }
+
+module _ (t : List ℕ) (job u : ℕ) (c c1 c2 d : List ℕ) (long : length c ≡ cellPlaces) (below : job < 16)
+    (low : jobAt t job .card < 8) (put : c1 ≡ set c (updateAt job) u)
+    (turn : c2
+    ≡ set (set c1 (activeAt + job) 1) (runningAt + jobAt t job .card)
+    (firstOn t (set (places c1 activeAt 16) job 1) (jobAt t job .card) (sizesIn t .jobs)))
+    (count : d ≡ set c2 entriesAt (getD c2 entriesAt 0 + 1)) where
+  -- The update,
+  first : Only (updateAt job) (updateAt job + 1) c c1
+  first = rw put (only-set (updateAt job) (updateAt job + 1) (updateAt job) u c (omega arith) (omega arith))
+
+  -- whose turn it is,
+  second : Only runningAt (activeAt + 16) c1 c2
+  second =
+      rw turn
+      (only-then
+      (only-set runningAt (activeAt + 16) (activeAt + job) 1 c1 (omega arith) (omega arith))
+      (only-set runningAt (activeAt + 16) (runningAt + jobAt t job .card) _ _ (omega arith) (omega arith)))
+
+  -- and the count.
+  third : Only entriesAt (entriesAt + 1) c2 d
+  third =
+      rw count (only-set entriesAt (entriesAt + 1) entriesAt (getD c2 entriesAt 0 + 1) c2 (omega arith) (omega arith))
+
+  -- The count before it.
+  pub entries-kept : getD c2 entriesAt 0 ≡ getD c entriesAt 0
+  entries-kept = second .kept entriesAt (inl (omega arith)) ∙ first .kept entriesAt (inl (omega arith))
+
+  -- A job's own part after the update is that at the end.
+  own-then : (k : ℕ) → ownOf d k ≡ ownOf c1 k
+  own-then k = own-out third k (inr (omega arith)) ∙ own-out second k (inr (omega arith))
+
+  pub called-so : Called t job u c d
+  called-so =
+      record {
+        long = third .long ∙ second .long ∙ first .long;
+        shared =
+            λ stat.
+            cells-free third stat (inl (omega arith, omega arith))
+            ∙ cells-free second stat (inr (omega arith, omega arith))
+            ∙ cells-out first stat (omega arith);
+        its-own = own-then job ∙ own;
+        others = λ k l n. own-then k ∙ own-out first k (apart k n (decLt k job));
+        book = book;
+      }
+    where
+      own : ownOf c1 job ≡ calledWith u (ownOf c job)
+      own =
+          rw (
+            ap (λ l. getD l (updateAt job) 0) put ∙ getD-set-same c (updateAt job) u 0 (omega (arith, long)),
+            places-out first (dirtyAt job) 16 (inl (omega arith)),
+            places-out first (currAt job) 16 (inl (omega arith)),
+            places-out first (copyAt job) 8 (inl (omega arith)),
+          )
+
+      apart : (k : ℕ) → k ≢ job → Dec (k < job) → (ownAt k + 64 ≤ updateAt job) ⊎ (updateAt job + 1 ≤ ownAt k)
+      apart k n (yes h) = inl (omega arith)
+      apart k n (no h) = inr (omega arith)
+
+      book : (x y : Tables) → x .cells ≡ c → y .cells ≡ d → y .commits ≡ x .commits
+          → bookOf y ≡ counted (turned t job 1 (bookOf x))
+      book x y ex ey same =
+          by-end
+          ∙ counted-so (with-cells x c2) (with-cells x d) (only-cells x c2 d) (second .long ∙ first .long ∙ long) 0 count
+          ∙ ap counted
+          (book-turned t (with-cells x c1) (with-cells x c2) job 1 (first .long ∙ long) below low turn refl
+          ∙ ap (turned t job 1) (book-out x (with-cells x c1) by-update (inr (inr (omega arith))) refl))
+        where
+          by-end : bookOf y ≡ bookOf (with-cells x d)
+          by-end = rw (ey, same)
+
+          by-update : Only (updateAt job) (updateAt job + 1) (x .cells) c1
+          by-update = subst (λ l. Only (updateAt job) (updateAt job + 1) l c1) (sym ex) first

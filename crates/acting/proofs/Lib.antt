@@ -1,0 +1,6 @@
+-- Laws.
+pub mod Items
+pub mod Ready
+pub mod Acts
+pub mod Calls
+pub mod Steps

@@ -1,0 +1,3 @@
+-- What acting on a judged entry promises and asks.
+pub mod Stepping
+pub mod Acting

@@ -1,0 +1,2 @@
+-- The laws behind the items.
+pub mod Card

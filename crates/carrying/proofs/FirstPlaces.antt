@@ -1,0 +1,71 @@
+-- Numbers put into the first places of a list one by one, and the replaced numbers. Assumes nothing.
+use Prim.Native.Nat.{ℕ, zero, suc, _+_, _-_, _≤_, _<_}
+use mathlib.Core.Path.{_≡_, refl, sym, ap, subst, _∙_}
+use mathlib.Core.List.{List, [], _∷_, _++_, append-nil}
+use native.Mathlib.Omega.{arith}
+use native.Mathlib.Numerals.{add-one}
+use native.Mathlib.Nat.{add-zero, add-suc}
+use borrow.Author.Tests.{eq-eqb, ne-eqb}
+use lib.Dec.{eqb}
+use lib.ListN.{length, getD, set, length-append}
+use Rattle.format.specs.Plan.{table}
+use Rattle.format.proofs.Tables.{length-table}
+use Rattle.model.specs.Lists.{if_then_else_}
+use Rattle.model.specs.Steps.{replaced, inFirstPlaces}
+
+-- One more number in the first places.
+pub one-more :
+    (ns list : List ℕ) (x : ℕ) → length ns < length list
+    → set (inFirstPlaces ns list) (length ns) x ≡ inFirstPlaces (ns ++ (x ∷ [])) list
+one-more [] [] x h = absurd (omega arith)
+one-more [] (y ∷ ys) x h = refl
+one-more (n ∷ ns) [] x h = absurd (omega arith)
+one-more (n ∷ ns) (y ∷ ys) x h = ap (λ l. n ∷ l) (one-more ns ys x (omega arith))
+
+-- One more number of a table.
+pub one-more-of :
+    (row : List ℕ) (f : ℕ → ℕ) (i : ℕ) → i < length row
+    → set (inFirstPlaces (table i f) row) i (f i) ≡ inFirstPlaces (table (i + 1) f) row
+one-more-of row f i h =
+    let room : length (table i f) < length row = rw (length-table i f) h in
+    ap (λ k. set (inFirstPlaces (table i f) row) k (f i)) (sym (length-table i f))
+    ∙ one-more (table i f) row (f i) room ∙ ap (λ k. inFirstPlaces (table k f) row) (sym (add-one i))
+
+-- The numbers replaced among the first listed blocks of a row.
+module _ (addr old : ℕ → ℕ) (dirty : List ℕ) where
+  -- A block written adds its old number.
+  pub replaced-written :
+      (i : ℕ) → getD dirty (addr i) 0 ≡ 2
+      → replaced addr old dirty (i + 1) ≡ replaced addr old dirty i ++ (old i ∷ [])
+  unfolding if_then_else_
+  replaced-written i h = rw (add-one, eq-eqb (getD dirty (addr i) 0) 2 h)
+
+  -- A block not written adds none.
+  pub replaced-unwritten :
+      (i : ℕ) → (getD dirty (addr i) 0 ≡ 2 → ⊥) → replaced addr old dirty (i + 1) ≡ replaced addr old dirty i
+  unfolding if_then_else_
+  replaced-unwritten i h =
+      rw (add-one, ne-eqb (getD dirty (addr i) 0) 2 h) (append-nil (replaced addr old dirty i))
+
+  grows-by : (i k : ℕ) → length (replaced addr old dirty i) ≤ length (replaced addr old dirty (i + k))
+  grows-by i zero = rw (add-zero i) (omega arith)
+  grows-by i (suc k) =
+      rw (
+        add-suc i k,
+        length-append (replaced addr old dirty (i + k))
+            (if eqb (getD dirty (addr (i + k)) 0) 2 then (old (i + k) ∷ []) else []),
+      )
+      (omega (arith, grows-by i k))
+
+  grows : (i n : ℕ) → i ≤ n → length (replaced addr old dirty i) ≤ length (replaced addr old dirty n)
+  grows i n h =
+      let e : i + (n - i) ≡ n = omega arith in
+      subst (λ k. length (replaced addr old dirty i) ≤ length (replaced addr old dirty k)) e (grows-by i (n - i))
+
+  -- Where all the numbers have room, a block written has a place for its own.
+  pub has-place :
+      (i n : ℕ) → i < n → getD dirty (addr i) 0 ≡ 2
+      → length (replaced addr old dirty i) < length (replaced addr old dirty n)
+  has-place i n h e =
+      let one = ap length (replaced-written i e) ∙ length-append (replaced addr old dirty i) (old i ∷ []) in
+      omega (arith, one, grows (i + 1) n (omega arith))

@@ -1,0 +1,21 @@
+-- `decide` reclaims and then clears. Assumes nothing.
+use Rattle.cells.proofs.Views.{own-then}
+use borrow.Author.Needs.{needs}
+use Rattle.carrying.proofs.decide.Statement.{statement}
+use Rattle.carrying.proofs.decide.Tie as tie
+use Rattle.carrying.proofs.decide.Reads as reads
+use Rattle.carrying.proofs.decide.Lts as lts
+use Rattle.carrying.proofs.clear.Reads as clear-reads
+use Rattle.carrying.proofs.reclaim.Reads as reclaim-reads
+
+reclaim-requires : tie.Need-reclaim-requires
+reclaim-requires c κs = search needs
+
+clear-requires : tie.Need-clear-requires
+clear-requires c κs = search needs
+
+returns : tie.Need-returns
+returns c = own-then _ _ _ _ _ _ (c .before .before .reclaim .ensures) (c .clear .ensures)
+
+pub decide-spec : {M : Type 1} → statement M
+decide-spec = tie.close (tie.spec reclaim-requires clear-requires returns)

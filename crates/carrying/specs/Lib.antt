@@ -1,0 +1,2 @@
+-- What carrying out a change asks.
+pub mod Asks

@@ -1,0 +1,2 @@
+-- Registers on to the next listed block.
+pub mod Rows

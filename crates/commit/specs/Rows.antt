@@ -1,0 +1,29 @@
+-- Registers on to the next listed block of a row. Assumes nothing.
+use Prim.Native.Nat.{ℕ, _+_}
+use lib.Dec.{ltb}
+use Rattle.model.specs.declared.Place.{Place}
+use Rattle.model.specs.Lists.{if_then_else_}
+use Rattle.cells.specs.declared.Registers.{Registers}
+
+-- After H41: on to the next listed block, or to H42 after the last.
+abbrev pub afterStore : Registers → Registers
+afterStore w =
+    record {
+      place = if ltb (w .j + 1) (w .numblks) then Place.H36 else Place.H42;
+      round = w .round;
+      lid = w .lid;
+      hid = w .hid;
+      wid = w .wid;
+      ver = w .ver;
+      next = w .next;
+      tr = w .tr;
+      index = w .index;
+      access = w .access;
+      word = w .word;
+      numblks = w .numblks;
+      dirtycnt = w .dirtycnt;
+      j = w .j + 1;
+      addr = w .addr;
+      old = w .old;
+      new = w .new;
+    }

@@ -1,2 +1,0 @@
--- What the code of a step is given of a plan and a state.
-pub mod Standing

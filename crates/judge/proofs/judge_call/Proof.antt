@@ -1,0 +1,78 @@
+-- `judge_call` meets its contract. Assumes nothing.
+use Prim.Native.Nat.{ℕ, _<_}
+use mathlib.Core.Path.{_≡_, sym, _∙_}
+use mathlib.Core.Bool.{Bool, true, false, cond}
+use mathlib.Core.List.{List}
+use native.Mathlib.Omega.{arith}
+use denote.Ref.{now}
+use borrow.Author.Tests.{le-leb, lt-leb}
+use Rattle.layout.specs.PlanTable.{sizesIn, updatesIn, planIn}
+use Rattle.layout.proofs.PlanIn.{updates-in}
+use Rattle.model.specs.declared.Refusal.{Refusal}
+use Rattle.model.specs.declared.Judgement.{Judgement}
+use Rattle.model.specs.Places.{isActive}
+use Rattle.model.specs.Machine.{Machine, workOf}
+use Rattle.model.specs.Entries.{judgeCall}
+use borrow.Author.Needs.{needs}
+use Rattle.judge.proofs.judge_call.Statement.{statement}
+use Rattle.judge.proofs.judge_call.Tie as tie
+
+-- A call of a job and an update that the plan has, of a job that is active or not.
+known :
+    (t : List ℕ) (m : Machine) (job update : ℕ) (up : Bool) → job < sizesIn t .jobs → update < updatesIn t
+    → isActive (workOf m job .place) ≡ up
+    → cond up (Judgement.Refused Refusal.Active) (Judgement.Calls job update) ≡ judgeCall (planIn t) m job update
+known t m job update up h g e = rw (lt-leb _ _ h, updates-in t, lt-leb _ _ g, e)
+
+jobs-requires : tie.Need-jobs-requires
+jobs-requires c κs = search needs
+
+returns : tie.Need-returns
+returns c m x is act =
+    rw (le-leb _ _ (rw (c .before .jobs .ensures) at (c .if1 .taken)))
+
+updates-requires : tie.Need-updates-requires
+updates-requires c κs = search needs
+
+returns-2 : tie.Need-returns-2
+returns-2 c m x is act =
+    let b = c .before .before in
+    let a = b .before .before .args in
+    rw (
+      lt-leb _ _ (rw (b .before .jobs .ensures) at (b .if1 .left)),
+      updates-in (now (a .plan)),
+      le-leb (updatesIn (now (a .plan))) (a .update) (rw (c .before .updates .ensures) at (c .if2 .taken)),
+    )
+
+is-active-requires : tie.Need-is-active-requires
+is-active-requires c κs = search needs
+
+returns-3 : tie.Need-returns-3
+returns-3 c m x is act =
+    let b = c .before .before in
+    let a = b .before .before in
+    let g = a .before .before .args in
+    let has : g .job < sizesIn (now (g .plan)) .jobs = rw (a .before .jobs .ensures) at (a .if1 .left) in
+    known (now (g .plan)) m (g .job) (g .update) true has (rw (b .before .updates .ensures) at (b .if2 .left))
+    (sym (act (g .job) (omega arith)) ∙ rw is (sym (c .before .is-active .ensures 0) ∙ c .if3 .taken))
+
+returns-4 : tie.Need-returns-4
+returns-4 c m x is act =
+    let b = c .before .before in
+    let a = b .before .before in
+    let g = a .before .before .args in
+    let has : g .job < sizesIn (now (g .plan)) .jobs = rw (a .before .jobs .ensures) at (a .if1 .left) in
+    known (now (g .plan)) m (g .job) (g .update) false has (rw (b .before .updates .ensures) at (b .if2 .left))
+    (sym (act (g .job) (omega arith)) ∙ rw is (sym (c .before .is-active .ensures 0) ∙ c .if3 .left))
+
+pub judge-call-spec : {M : Type 1} → statement M
+judge-call-spec =
+    tie.close
+    (tie.spec
+    jobs-requires
+    returns
+    updates-requires
+    returns-2
+    is-active-requires
+    returns-3
+    returns-4)

@@ -1,2 +1,0 @@
--- Laws of the jobs that run on a card, for the code that judges an entry.
-pub mod Laws

@@ -1,2 +1,0 @@
--- What acting on a judged entry promises and asks.
-pub mod Acting

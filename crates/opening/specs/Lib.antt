@@ -1,2 +1,0 @@
--- What the opening promises.
-pub mod Store

@@ -1,3 +1,0 @@
--- Laws of the plan's arrays.
-pub mod Filling
-pub mod Plans

@@ -1,2 +1,0 @@
--- What the arrays of a plan hold.
-pub mod Arrays

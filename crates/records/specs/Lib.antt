@@ -1,2 +1,0 @@
--- What the functions of the step list promise.
-pub mod Given

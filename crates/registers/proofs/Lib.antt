@@ -1,0 +1,2 @@
+-- The code compares statuses by their bits.
+pub mod Statuses

@@ -1,0 +1,44 @@
+use mathlib.Core.Path.{_∙_, ap}
+use native.Mathlib.Omega.{arith}
+use lib.IntN.{pos}
+use lib.ListN.{getD}
+use Rattle.layout.specs.PlanTable.{sizesIn}
+use Rattle.model.specs.Status.{same}
+use Rattle.registers.proofs.Statuses.{bits-test, there}
+use borrow.Author.Needs.{needs}
+use Rattle.registers.proofs.is_finished.Statement.{statement}
+use Rattle.registers.proofs.is_finished.Tie as tie
+use Rattle.registers.proofs.is_finished.Reads as reads
+use Rattle.registers.proofs.is_finished.Lts as lts
+use Rattle.layout.proofs.jobs.Reads as jobs-reads
+
+-- src/lib.rt:50:18
+mul-status : tie.Need-mul-status
+mul-status c = search needs
+
+-- src/lib.rt:50:18
+element-copy-out-status : tie.Need-element-copy-out-status
+element-copy-out-status c = search needs
+
+-- src/lib.rt:51:9
+jobs-requires : tie.Need-jobs-requires
+jobs-requires c κs = search needs
+
+-- src/lib.rt:52:15
+cast-result : tie.Need-cast-result
+cast-result c = search needs
+
+-- src/lib.rt:45:1
+returns : tie.Need-returns
+returns c none =
+    let s = c .before .before in
+    let a = s .args in
+    rw (c .jobs .ensures)
+    (bits-test (getD (a .stat .now) (a .k) (pos 0)) (pos (sizesIn (a .plan .now) .jobs))
+    (record { sfits = c .before .status .given }) (record { sfits = omega (arith, s .pre) })
+    ∙ ap (λ x. same x (pos (sizesIn (a .plan .now) .jobs)))
+    (there (a .stat .now) (a .k) (pos 0) none (omega (arith, s .pre))))
+
+pub is-finished-spec : {M : Type 1} → statement M
+is-finished-spec =
+    tie.close (tie.spec mul-status element-copy-out-status jobs-requires cast-result returns)

@@ -1,0 +1,2 @@
+-- Registers with one thing changed.
+pub mod Registers

@@ -1,0 +1,83 @@
+-- The opening of a sound plan is where a run of records starts. A text's entries start there too. Assumes a sound
+-- plan.
+use Prim.Native.Nat.{ℕ, _≤_}
+use mathlib.Core.Path.{_≡_, refl, sym, _∙_, ap, subst}
+use mathlib.Core.List.{List, []}
+use native.Mathlib.Omega.{arith}
+use lib.IntN.{ℤ}
+use lib.ListN.{length, take, replicate, length-replicate}
+use Rattle.format.specs.declared.Entry.{Entry}
+use Rattle.format.specs.Sound.{Sound}
+use Rattle.layout.specs.PlanTable.{planIn}
+use Rattle.model.specs.declared.Cells.{Cells}
+use Rattle.model.specs.Machine.{Machine, openingOf}
+use Rattle.model.specs.History.{begun, runOf}
+use Rattle.model.proofs.Sizes.{Sized}
+use Rattle.model.proofs.Lists.{sized-opening}
+use Rattle.cells.specs.Tables.{Tables, Whole, lent, idle, machineOf}
+use Rattle.cells.specs.Book.{bookOf}
+use Rattle.judge.specs.Turns.{Turns}
+use Rattle.judge.specs.Rulings.{haltOf}
+use Rattle.judge.proofs.Turned.{turns-opening}
+use Rattle.run_loop.specs.Reached.{placeOf, Reached, Starts}
+use Rattle.open_tables.specs.Opened.{emptyRows, Blank, Opened}
+
+module _ {t cells : List ℕ} {stat : List ℤ} {store : List ℕ} (ok : Sound (planIn t))
+    (o : Opened t cells stat store) (all : List Entry) (few : length all ≤ 4000) (commits : List (List ℕ))
+    (all-rows : length commits ≡ 4000) where
+  -- The tables, with empty rows.
+  abbrev x : Tables
+  x = lent cells stat store emptyRows emptyRows emptyRows commits
+
+  -- They are the machine's opening.
+  opens : machineOf x (replicate 16 idle) ≡ openingOf (planIn t)
+  unfolding openingOf
+  opens =
+      λ i.
+      record {
+        cells = o .cells-are i;
+        jobs = o .jobs-are i;
+        store = o .store-is i;
+        addrlist = emptyRows;
+        oldlist = emptyRows;
+        newlist = emptyRows;
+      }
+
+  -- They are whole.
+  whole : Whole x
+  whole =
+      record {
+        cells = o .all-cells;
+        stat = ap (λ (c : Cells). length (c .stat)) (o .cells-are) ∙ sized .stat;
+        store = ap (λ (m : Machine). length (m .store)) opens ∙ sized .store;
+        commits = all-rows;
+      }
+    where
+      sized : Sized (openingOf (planIn t))
+      sized = sized-opening (planIn t) ok
+
+  -- No record has run.
+  reached : Reached t all [] (replicate 16 idle) x
+  unfolding begun runOf
+  reached =
+      record {
+        machine-is = opens;
+        stopped-by = ap haltOf (blank .halt);
+        turns =
+            subst (λ (m : Machine). Turns t m (bookOf x)) (sym opens)
+            (turns-opening t (bookOf x) (blank .active) (blank .running));
+        counted = blank .entries;
+        few-done = omega (arith, blank .entries);
+        few-rows = omega (arith, blank .committed);
+        rows-are = ap (λ (n : ℕ). take n commits) (blank .committed);
+        other-is = ap placeOf (blank .other);
+        whole = whole;
+        all-registers = length-replicate 16 idle;
+      }
+    where
+      blank : Blank t (bookOf x)
+      blank = o .book x refl
+
+  -- The records can start.
+  pub opened-starts : Starts t all x
+  opened-starts = record { sound = ok; few = few; reached = reached }

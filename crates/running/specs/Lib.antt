@@ -1,4 +1,0 @@
--- What a run promises.
-pub mod Rows
-pub mod Schedules
-pub mod Rans

@@ -1,0 +1,2 @@
+-- What an item of the step list asks.
+pub mod Ready

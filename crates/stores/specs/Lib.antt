@@ -1,2 +1,0 @@
--- What carrying out a store promises and asks.
-pub mod Carried

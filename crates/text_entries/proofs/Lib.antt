@@ -1,2 +1,0 @@
--- The laws of a run of a text's entries.
-pub mod Text

@@ -1,2 +1,0 @@
--- What a run of a text's entries has reached.
-pub mod Going

@@ -1,0 +1,46 @@
+-- `turn` stores the job's part of who is active, and then who runs on its card. Assumes nothing.
+use native.Mathlib.Omega.{arith}
+use denote.Ref.{now}
+use Rattle.cells.specs.CellTable.{activeAt}
+use Rattle.cells.proofs.Places.{places-in}
+use borrow.Author.Needs.{needs}
+use Rattle.turning.proofs.turn.Statement.{statement}
+use Rattle.turning.proofs.turn.Tie as tie
+use Rattle.turning.proofs.turn.Reads as reads
+use Rattle.turning.proofs.turn.Lts as lts
+use Rattle.cells.proofs.put_active.Reads as put-active-reads
+use Rattle.cells.proofs.put_running.Reads as put-running-reads
+use Rattle.layout.proofs.card.Reads as card-reads
+use Rattle.turning.proofs.first_on.Reads as first-on-reads
+
+put-active-requires : tie.Need-put-active-requires
+put-active-requires c κs = search needs
+
+card-requires : tie.Need-card-requires
+card-requires c κs = search needs
+
+first-on-requires : tie.Need-first-on-requires
+first-on-requires c κs = search needs
+
+put-running-requires : tie.Need-put-running-requires
+put-running-requires c κs = search needs
+
+returns : tie.Need-returns
+returns c =
+    let first = c .before .before in
+    let card = first .before .before in
+    let start = card .before .before .before in
+    let a = start .args in
+    rw (
+      c .put-running .ensures,
+      card .before .put-active .ensures,
+      first .first-on .ensures,
+      card .card .ensures,
+      card .before .put-active .ensures,
+      places-in (now (a .cells)) activeAt 16 (a .p) (a .up) (omega (arith, start .pre)) (omega (arith, start .pre)),
+    )
+
+pub turn-spec : {M : Type 1} → statement M
+turn-spec =
+    tie.close
+    (tie.spec put-active-requires card-requires first-on-requires put-running-requires returns)

@@ -1,2 +1,0 @@
--- Why who runs on a card changes only with a call and a return.
-pub mod Laws

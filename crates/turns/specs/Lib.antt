@@ -1,2 +1,0 @@
--- Two states that differ in one job's record.
-pub mod Differs
