@@ -1,2 +1,2 @@
--- Registers on to the next listed block.
+-- Registers at a line of a row, and on to the next.
 pub mod Rows

@@ -1,4 +1,4 @@
--- Registers on to the next listed block of a row. Assumes nothing.
+-- Registers at a line of a row, and on to the next listed block. Assumes nothing.
 use Prim.Native.Nat.{ℕ, _+_}
 use lib.Dec.{ltb}
 use Rattle.model.specs.declared.Place.{Place}
@@ -26,4 +26,27 @@ afterStore w =
       addr = w .addr;
       old = w .old;
       new = w .new;
+    }
+
+-- With the address, the old and the new number that H38 reads.
+abbrev pub atLine : ℕ → ℕ → ℕ → Registers → Registers
+atLine addr old new w =
+    record {
+      place = w .place;
+      round = w .round;
+      lid = w .lid;
+      hid = w .hid;
+      wid = w .wid;
+      ver = w .ver;
+      next = w .next;
+      tr = w .tr;
+      index = w .index;
+      access = w .access;
+      word = w .word;
+      numblks = w .numblks;
+      dirtycnt = w .dirtycnt;
+      j = w .j;
+      addr = addr;
+      old = old;
+      new = new;
     }

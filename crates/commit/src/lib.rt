@@ -15,7 +15,7 @@ ghost use Rattle.cells.specs.CellTable.{places, versionIn, bankAt};
 ghost use Rattle.cells.specs.Tables.{Tables};
 ghost use Rattle.cells.specs.Effects.{Does, Fits};
 ghost use Rattle.cells.specs.Fits.{PlanFits, CellsFit, RegistersFit};
-ghost use Rattle.commit.specs.Rows.{afterStore};
+ghost use Rattle.commit.specs.Rows.{afterStore, atLine};
 use cells::CELL_PLACES;
 use cells::Change;
 use cells::Effect;
@@ -88,25 +88,36 @@ pub fn h37(plan: &[u32; PLAN_PLACES], stat: &[i32; 17], p: usize, w: Registers) 
     registers::quiet(registers::go_to(w, Place::H38))
 }
 
+// Line j of a row: its address, old and new number. The row goes by value beside the registers.
+fn read_line(w: Registers, addr: [u32; 16], old: [u32; 16], new: [u32; 16]) -> Registers
+    requires { ⌜ (w .j < 16) × ((i : ℕ) → (getD addr i 0 < 16) × ((getD old i 0 < mostNumbers)
+        × (getD new i 0 < mostNumbers))) ⌝ }
+    ensures { λ r. ⌜ r ≡ atLine (getD addr (w .j) 0) (getD old (w .j) 0) (getD new (w .j) 0) w ⌝ }
+{
+    let j = w.j as usize;
+    let mut next = w;
+    next.addr = addr[j] as u8;
+    next.old = old[j] as u8;
+    next.new = new[j] as u8;
+    next
+}
+
 // H38, read wid's address, old, new.
 pub fn h38(
     w: Registers,
-    addr: [[u32; 16]; 16],
-    old: [[u32; 16]; 16],
-    new: [[u32; 16]; 16],
+    addr: &[[u32; 16]; 16],
+    old: &[[u32; 16]; 16],
+    new: &[[u32; 16]; 16],
 ) -> Effect
     requires { ⌜ Names (w .wid) × (w .j < 16) ⌝ }
-    requires { ⌜ ((k i : ℕ) → (inRow addr k i < 16) × ((inRow old k i < mostNumbers) × (inRow new k i < mostNumbers))) ⌝ }
-    ensures { λ r. ⌜ ((t : List ℕ) (x : Tables) (p : ℕ) → x .addr ≡ addr → x .old ≡ old → x .new ≡ new
-        → Does Place.H38 t x p w r) ⌝ }
+    requires { ⌜ ((k i : ℕ) → (inRow (now addr) k i < 16) × ((inRow (now old) k i < mostNumbers)
+        × (inRow (now new) k i < mostNumbers))) ⌝ }
+    ensures { λ r. ⌜ ((t : List ℕ) (x : Tables) (p : ℕ) → x .addr ≡ now (addr .entry) → x .old ≡ now (old .entry)
+        → x .new ≡ now (new .entry) → Does Place.H38 t x p w r) ⌝ }
     ensures { λ r. ⌜ Fits r ⌝ }
 {
     let wid = job_named(w.wid);
-    let j = w.j as usize;
-    let mut next = w;
-    next.addr = addr[wid][j] as u8;
-    next.old = old[wid][j] as u8;
-    next.new = new[wid][j] as u8;
+    let next = read_line(w, addr[wid], old[wid], new[wid]);
     registers::quiet(registers::go_to(next, Place::H41))
 }
 

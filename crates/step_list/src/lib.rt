@@ -53,7 +53,7 @@ pub fn item(
         Place::H34 => commit::h34(cells, p, w),
         Place::H36 => commit::h36(cells, w),
         Place::H37 => commit::h37(plan, stat, p, w),
-        Place::H38 => commit::h38(w, *addr, *old, *new),
+        Place::H38 => commit::h38(w, addr, old, new),
         Place::H41 => commit::h41(cells, w),
         Place::H42 => commit::h42(cells, stat, w),
     }

@@ -47,6 +47,18 @@ pub decimal-most : (n : ℕ) → length (decimal n) ≤ 10
 unfolding decimal
 decimal-most n = length-digits 9 n
 
+-- A power of ten is not 0.
+some-power : (k : ℕ) → 1 ≤ 10 ^ k
+some-power zero = omega arith
+some-power (suc k) = omega (arith, some-power k)
+
+-- A number from 10 to the k on, and below ten times that, has k + 1 digits.
+pub length-decimal : (k n : ℕ) → 10 ^ k ≤ n → n < 10 ^ suc k → n < 4294967296 → length (decimal n) ≡ suc k
+length-decimal zero n l h b = rw (decimal-small n (omega arith))
+length-decimal (suc k) n l h b =
+    rw (decimal-large n (omega (arith, l, some-power k)) b, length-append (decimal (n / 10)) ((48 + n % 10) ∷ []))
+    (omega (arith, length-decimal k (n / 10) (omega arith) (omega arith) (omega arith)))
+
 -- The parts in order: the first, and those behind it.
 joined-first : (n : ℕ) (f : ℕ → List ℕ) → joined (suc n) f ≡ f 0 ++ joined n (λ i. f (suc i))
 joined-first zero f = sym (append-nil (f 0))

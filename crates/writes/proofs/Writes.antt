@@ -6,7 +6,7 @@ use native.Mathlib.Nat.{add-zero, zero-add}
 use native.Mathlib.Numerals.{add-one}
 use native.Mathlib.Omega.{arith}
 use lib.ListN.{length, set, drop, length-append}
-use lib.Seq.{sets, length-sets, sets-eq}
+use lib.Seq.{sets, length-sets, sets-eq, set-out}
 use Rattle.runs.specs.Report.{joined}
 use Rattle.writes.specs.Writes.{put, Writes}
 
@@ -15,6 +15,17 @@ put-sets : (b : List ℕ) (at : ℕ) (xs : List ℕ) → put b at xs ≡ sets b 
 unfolding put
 put-sets b at [] = refl
 put-sets b at (x ∷ xs) = rw (add-one at) (put-sets (set b at x) (suc at) xs)
+
+-- Bytes past the buffer's end are not written.
+put-past : (b : List ℕ) (at : ℕ) (xs : List ℕ) → length b ≤ at → put b at xs ≡ b
+unfolding put
+put-past b at [] h = refl
+put-past b at (x ∷ xs) h = rw (set-out b at x h) (put-past b (at + 1) xs (omega arith))
+
+-- So what has no room is only counted.
+pub counted : (xs : List ℕ) (most at : ℕ) (b : List ℕ) → length xs ≤ most → length b ≤ at
+    → Writes xs most at b (at + length xs) b
+counted xs most at b few h = record { next-is = refl; at-most = omega arith; after-is = sym (put-past b at xs h) }
 
 -- Bytes and bytes behind them.
 put-append : (b : List ℕ) (at : ℕ) (xs ys : List ℕ) → put b at (xs ++ ys) ≡ put (put b at xs) (at + length xs) ys

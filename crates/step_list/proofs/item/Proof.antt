@@ -127,8 +127,8 @@ enum-told-19 c = search needs
 
 h38-requires : tie.Need-h38-requires
 h38-requires c κs =
-    let k = c .before .before .before .before .before .before .pre .1 in
-    (ready-at (c .before .before .before .enum-told19 .given .1) k, k .rows)
+    let k = c .before .before .before .pre .1 in
+    (ready-at (c .enum-told19 .given .1) k, k .rows)
 
 enum-told-20 : tie.Need-enum-told-20
 enum-told-20 c = search needs
@@ -264,7 +264,7 @@ returns-19 c = (
 returns-20 : tie.Need-returns-20
 returns-20 c = (
   λ commits.
-      at-place _ _ _ _ _ (c .before .before .before .before .enum-told19 .given .1) (c .h38 .ensures .0 _ _ _ refl refl refl),
+      at-place _ _ _ _ _ (c .before .enum-told19 .given .1) (c .h38 .ensures .0 _ _ _ refl refl refl),
   (c .h38 .ensures .1 .0, λ commits. c .h38 .ensures .1 .1 _ _),
 )
 

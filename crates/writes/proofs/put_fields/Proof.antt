@@ -31,14 +31,14 @@ loop-holds c = (omega arith, nothing _ _)
 put-byte-requires : tie.Need-put-byte-requires Inv-loop μ-loop
 put-byte-requires c κs = omega arith
 
-mul-put-decimal : tie.Need-mul-put-decimal Inv-loop μ-loop
-mul-put-decimal c = omega arith
+mul-put-number : tie.Need-mul-put-number Inv-loop μ-loop
+mul-put-number c = omega arith
 
-shared-slice-read-put-decimal : tie.Need-shared-slice-read-put-decimal Inv-loop μ-loop
-shared-slice-read-put-decimal c = omega arith
+shared-slice-read-put-number : tie.Need-shared-slice-read-put-number Inv-loop μ-loop
+shared-slice-read-put-number c = omega arith
 
-put-decimal-requires : tie.Need-put-decimal-requires Inv-loop μ-loop
-put-decimal-requires c κs = omega arith
+put-number-requires : tie.Need-put-number-requires Inv-loop μ-loop
+put-number-requires c κs = omega arith
 
 add-i : tie.Need-add-i Inv-loop μ-loop
 add-i c = omega arith
@@ -51,7 +51,7 @@ loop-again c =
     let d = c .before .before in
     let b = d .before .before .before .before .before in
     let l = b .before .before .before in
-    let w = then (b .put-byte .ensures) (d .put-decimal .ensures) in
+    let w = then (b .put-byte .ensures) (d .put-number .ensures) in
     (omega arith, turn (l .loop .i) (one (now (l .before .before .before .args .numbers))) (l .loop .inv .1) w)
 
 put-byte-requires-2 : tie.Need-put-byte-requires-2 Inv-loop μ-loop
@@ -82,9 +82,9 @@ put-fields-spec =
     μ-loop
     loop-holds
     put-byte-requires
-    mul-put-decimal
-    shared-slice-read-put-decimal
-    put-decimal-requires
+    mul-put-number
+    shared-slice-read-put-number
+    put-number-requires
     add-i
     loop-less
     loop-again
