@@ -40,7 +40,7 @@ returns c = (
       let none = pos (sizesIn (a .plan .now) .jobs) in
       let wid = read-back l (a .w .hid) none (omega (arith, s .pre)) (record { sfits = n .next .given }) in
       let und = sym (c .before .before .before .is-undecided .ensures none) ∙ c .before .before .if1 .taken in
-      rw (is, und) (rw (c .quiet .ensures, c .before .go-to .ensures, wid)),
+      rw (is, und, ← wid) (rw (c .quiet .ensures, c .before .go-to .ensures)),
   rw (c .quiet .ensures) (tt, λ x p. tt),
 )
 
@@ -66,7 +66,7 @@ returns-2 c = (
       let f = c .before .before .before in
       let und = sym (f .before .before .is-undecided .ensures none) ∙ f .before .if1 .left in
       let fin = sym (f .is-finished .ensures none) ∙ c .before .before .if2 .taken in
-      rw (is, und, fin) (rw (c .quiet2 .ensures, c .before .go-to2 .ensures, wid)),
+      rw (is, und, fin, ← wid) (rw (c .quiet2 .ensures, c .before .go-to2 .ensures)),
   rw (c .quiet2 .ensures) (tt, λ x p. tt),
 )
 
@@ -89,7 +89,7 @@ returns-3 c = (
       let f = c .before .before .before in
       let und = sym (f .before .before .is-undecided .ensures none) ∙ f .before .if1 .left in
       let fin = sym (f .is-finished .ensures none) ∙ c .before .before .if2 .left in
-      rw (is, und, fin) (rw (c .quiet3 .ensures, c .before .go-to3 .ensures, wid)),
+      rw (is, und, fin, ← wid) (rw (c .quiet3 .ensures, c .before .go-to3 .ensures)),
   rw (c .quiet3 .ensures) (tt, λ x p. tt),
 )
 
