@@ -115,8 +115,8 @@ pub fn written(m: Move, word: u32) -> u32
     }
 }
 
-// After a read or write: to the next one of the move, else to the next move, else to H22. The move m is the one that the
-// job is at.
+// After a read or write: to the next one of the move, else to the next move, else to H22. The move m is the one that
+// the job is at.
 pub fn onward(plan: &[u32; PLAN_PLACES], m: Move, w: Registers) -> Registers
     requires { ⌜ InMove (now plan) w × (m ≡ moveFor (now plan) w) ⌝ }
     ensures { λ r. ⌜ r ≡ onwardIn (now (plan .entry)) w ⌝ }

@@ -127,7 +127,8 @@ module _ {t : List ℕ} {ws : List Registers} {x : Tables} (k : Kept t ws x) whe
       → Acts t (Judgement.Refused r) (bookOf x .other) ws x (set ws 0 w) y
   unfolding acted
   refuse-acts r y w same put its =
-      let book : bookOf y ≡ halted (refusalNumber r) (bookOf x) = halted-so x y same (k .whole .cells) (refusalNumber r) put in
+      let book : bookOf y ≡ halted (refusalNumber r) (bookOf x) =
+      halted-so x y same (k .whole .cells) (refusalNumber r) put in
       let back : set ws 0 w ≡ ws = ap (set ws 0) (sym its) ∙ put-back ws in
       let machine : machineOf y ws ≡ machineOf x ws =
       machine-free x y same
@@ -465,7 +466,8 @@ module _ {t : List ℕ} {ws : List Registers} {x : Tables} (k : Kept t ws x) (p 
 
   counts-by : (b : Bool) → commitsAt (workOf (machineOf x ws) p .place) (out .done) ≡ b → Counts
   counts-by false e =
-      let none-so : commitBy (s .change) ≡ none = committing-so ∙ ap (λ b. cond b (some (workOf (machineOf x ws) p .hid)) none) e in
+      let none-so : commitBy (s .change) ≡ none =
+      committing-so ∙ ap (λ b. cond b (some (workOf (machineOf x ws) p .hid)) none) e in
       let kept = commits-stay t x p (s .change) none-so in
       let count : bookOf y .committed ≡ bookOf x .committed = ap (λ (b : Book). b .committed) (s .book-is) ∙ kept .0 in
       let rows : y .commits ≡ x .commits = ap (λ (b : Book). b .commits) (s .book-is) ∙ kept .1 in

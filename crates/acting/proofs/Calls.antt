@@ -97,7 +97,8 @@ module _ (t : List ℕ) (job u : ℕ) (c c1 c2 d : List ℕ) (long : length c �
           → bookOf y ≡ counted (turned t job 1 (bookOf x))
       book x y ex ey same =
           by-end
-          ∙ counted-so (with-cells x c2) (with-cells x d) (only-cells x c2 d) (second .long ∙ first .long ∙ long) 0 count
+          ∙ counted-so (with-cells x c2) (with-cells x d) (only-cells x c2 d) (second .long ∙ first .long ∙ long) 0
+          count
           ∙ ap counted
           (book-turned t (with-cells x c1) (with-cells x c2) job 1 (first .long ∙ long) below low turn refl
           ∙ ap (turned t job 1) (book-out x (with-cells x c1) by-update (inr (inr (omega arith))) refl))

@@ -205,13 +205,15 @@ module _ (plan : Plan) (s : Shared) (p : ℕ) (few : p < plan .sizes .jobs) wher
   item-commits Place.A1 w = refl
   item-commits Place.A2 w = refl
   item-commits Place.A4 w = either (Committing Place.A4 (w .hid)) _ _ _ refl refl
-  item-commits Place.A7 w = either (Committing Place.A7 (w .hid)) _ _ _ refl (either (Committing Place.A7 (w .hid)) _ _ _ refl refl)
+  item-commits Place.A7 w =
+      either (Committing Place.A7 (w .hid)) _ _ _ refl (either (Committing Place.A7 (w .hid)) _ _ _ refl refl)
   item-commits Place.A10 w = refl
   item-commits Place.A12 w = either (Committing Place.A12 (w .hid)) _ _ _ refl refl
   item-commits Place.A14 w = either (Committing Place.A14 (w .hid)) _ _ _ refl refl
   item-commits Place.A15 w = refl
   item-commits Place.H16 w = refl
-  item-commits Place.H17 w = either (Committing Place.H17 (w .hid)) _ _ _ refl (either (Committing Place.H17 (w .hid)) _ _ _ refl refl)
+  item-commits Place.H17 w =
+      either (Committing Place.H17 (w .hid)) _ _ _ refl (either (Committing Place.H17 (w .hid)) _ _ _ refl refl)
   item-commits Place.H21 w = refl
   item-commits (Place.Move st) w = stage-commits st w
   item-commits Place.H22 w = refl

@@ -139,7 +139,8 @@ module _ {t : List ℕ} {ws : List Registers} {x : Tables} (k : Kept t ws x) whe
           }
 
     -- Room for what a stage adds, by the move that the job is at.
-    room-at : (st : Stage) → Inside (planIn t) st record-of → RoomFor (planIn t) st record-of → RoomAt st t (x .cells) p w
+    room-at : (st : Stage) → Inside (planIn t) st record-of → RoomFor (planIn t) st record-of
+        → RoomAt st t (x .cells) p w
     room-at Stage.Check i h = tt
     room-at Stage.List i h = rw (← same-move Stage.List i) h
     room-at Stage.Copy i h = rw (← same-move Stage.Copy i) h

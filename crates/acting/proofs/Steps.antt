@@ -23,7 +23,8 @@ use Rattle.cells.proofs.Books.{OnlyCells, machine-free, whole-so, counted-so}
 use Rattle.acting.specs.Stepping.{Stepped}
 
 module _ (t : List ℕ) (p : ℕ) (w : Registers) (r : Effect) (x y z : Tables) (few : p < 16) (whole : Whole x)
-    (does : Does (w .place) t x p w r) (inside : Inside (r .registers) (r .change)) (carried : Carried t p (r .change) x y)
+    (does : Does (w .place) t x p w r) (inside : Inside (r .registers) (r .change))
+    (carried : Carried t p (r .change) x y)
     (book : bookOf y ≡ bookAfter t x p (r .change)) (still : Whole y) (same : OnlyCells y z)
     (count : z .cells ≡ set (y .cells) entriesAt (getD (y .cells) entriesAt 0 + 1)) where
   -- The count is no part of the machine.

@@ -1,5 +1,5 @@
--- What acting on a judged entry promises: the tables are then the machine that the definitions give, and the book is kept
--- up with it; and what it asks. Assumes nothing.
+-- What acting on a judged entry promises: the tables are then the machine that the definitions give, and the book is
+-- kept up with it; and what it asks. Assumes nothing.
 use Prim.Native.Nat.{ℕ, _+_, _≤_, _<_}
 use mathlib.Core.Path.{_≡_}
 use mathlib.Core.Bool.{Bool, true, cond, _&&_}
@@ -50,8 +50,8 @@ haltBy (Judgement.Calls job u) halt = halt
 haltBy (Judgement.Runs p) halt = halt
 haltBy (Judgement.Refused r) halt = refusalNumber r
 
--- A judgement that an entry of this plan can meet after n entries: a called job is there and so is the update; a job that
--- runs is there and active; and where the entry is accepted there is room for it.
+-- A judgement that an entry of this plan can meet after n entries: a called job is there and so is the update; a job
+-- that runs is there and active; and where the entry is accepted there is room for it.
 abbrev pub Judged : Plan → Machine → ℕ → Judgement → Type 0
 Judged plan m n (Judgement.Calls job u) = (job < plan .sizes .jobs) × ((u < length (plan .updates)) × (n < 4000))
 Judged plan m n (Judgement.Runs p) =
@@ -68,8 +68,8 @@ pub record Kept (t : List ℕ) (ws : List Registers) (x : Tables) : Type 0 where
   pub few-commits : bookOf x .committed ≤ bookOf x .entries
   pub few-entries : bookOf x .entries ≤ 4000
 
--- From tables x to tables y, the registers ws becoming ws′, an entry was acted on that is judged so; `other` is the place
--- of the first record of another kind.
+-- From tables x to tables y, the registers ws becoming ws′, an entry was acted on that is judged so; `other` is the
+-- place of the first record of another kind.
 pub record Acts (t : List ℕ) (j : Judgement) (other : ℕ) (ws : List Registers) (x : Tables) (ws′ : List Registers)
     (y : Tables) : Type 0 where
   pub machine-is : machineOf y ws′ ≡ acted (planIn t) (machineOf x ws) j

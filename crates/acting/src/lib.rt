@@ -21,7 +21,8 @@ use model::Refusal;
 // One more accepted entry.
 fn count_entry(cells: &mut [u32; CELL_PLACES])
     requires { ⌜ getD (now cells) entriesAt 0 < 4000 ⌝ }
-    ensures { λ _. ⌜ now (cells .exit) ≡ set (now (cells .entry)) entriesAt (getD (now (cells .entry)) entriesAt 0 + 1) ⌝ }
+    ensures { λ _. ⌜ now (cells .exit)
+        ≡ set (now (cells .entry)) entriesAt (getD (now (cells .entry)) entriesAt 0 + 1) ⌝ }
 {
     let n = cells::entries(cells);
     cells::put_entries(cells, n + 1);

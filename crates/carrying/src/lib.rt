@@ -51,7 +51,8 @@ fn clear(cells: &mut [u32; CELL_PLACES], p: usize)
 // its row the old numbers of those written.
 fn reclaim(cells: &mut [u32; CELL_PLACES], p: usize, n: u32, addr: [u32; 16], old: [u32; 16])
     requires { ⌜ (p < 16) × ((n ≤ 16) × ((i : ℕ) → getD addr i 0 < 16)) ⌝ }
-    requires { ⌜ length (replaced (λ i. getD addr i 0) (λ i. getD old i 0) (places (now cells) (dirtyAt p) 16) n) ≤ 8 ⌝ }
+    requires { ⌜ length (replaced (λ i. getD addr i 0) (λ i. getD old i 0) (places (now cells) (dirtyAt p) 16) n)
+        ≤ 8 ⌝ }
     ensures { λ _. ⌜ OwnStep p (reclaiming (λ i. getD addr i 0) (λ i. getD old i 0) n) (now (cells .entry))
         (now (cells .exit)) ⌝ }
 {
@@ -69,7 +70,8 @@ fn reclaim(cells: &mut [u32; CELL_PLACES], p: usize, n: u32, addr: [u32; 16], ol
 // H25 done: the replaced numbers reclaimed, and the marks cleared.
 fn decide(cells: &mut [u32; CELL_PLACES], p: usize, n: u32, addr: [u32; 16], old: [u32; 16])
     requires { ⌜ (p < 16) × ((n ≤ 16) × ((i : ℕ) → getD addr i 0 < 16)) ⌝ }
-    requires { ⌜ length (replaced (λ i. getD addr i 0) (λ i. getD old i 0) (places (now cells) (dirtyAt p) 16) n) ≤ 8 ⌝ }
+    requires { ⌜ length (replaced (λ i. getD addr i 0) (λ i. getD old i 0) (places (now cells) (dirtyAt p) 16) n)
+        ≤ 8 ⌝ }
     ensures { λ _. ⌜ OwnStep p (λ o. unmarked (reclaiming (λ i. getD addr i 0) (λ i. getD old i 0) n o))
         (now (cells .entry)) (now (cells .exit)) ⌝ }
 {

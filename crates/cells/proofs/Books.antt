@@ -9,7 +9,8 @@ use lib.Seq.{getD-set-same, getD-set-other}
 use Rattle.format.proofs.Tables.{table-same}
 use Rattle.layout.specs.PlanTable.{sizesIn, jobAt}
 use Rattle.cells.specs.declared.Registers.{Registers}
-use Rattle.cells.specs.CellTable.{places, Only, cellPlaces, entriesAt, committedAt, haltAt, otherAt, runningAt, activeAt}
+use Rattle.cells.specs.CellTable.{places, Only, cellPlaces, entriesAt, committedAt, haltAt, otherAt}
+use Rattle.cells.specs.CellTable.{runningAt, activeAt}
 use Rattle.cells.specs.Tables.{Tables, Whole, ownOf, workWith, idle, worksOf, machineOf}
 use Rattle.cells.specs.Book.{bookOf, firstOn, turned, counted, halted, noting}
 use Rattle.cells.proofs.Places.{only-set, places-out, places-in}
@@ -77,7 +78,8 @@ module _ (x y : Tables) (same : OnlyCells x y) where
   module _ (long : length (x .cells) ≡ cellPlaces) (n : ℕ) where
     pub counted-so : y .cells ≡ set (x .cells) entriesAt (bookOf x .entries + 1) → bookOf y ≡ counted (bookOf x)
     counted-so e =
-        let o = only-set entriesAt (entriesAt + 1) entriesAt (bookOf x .entries + 1) (x .cells) (omega arith) (omega arith) in
+        let o =
+        only-set entriesAt (entriesAt + 1) entriesAt (bookOf x .entries + 1) (x .cells) (omega arith) (omega arith) in
         rw (
           e,
           same .commits,

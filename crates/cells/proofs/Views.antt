@@ -27,7 +27,8 @@ pub own-out :
     → ownOf u q ≡ ownOf t q
 own-out {lo} {hi} {t} {u} o q apart =
     let a : places u (ownAt q) 16 ≡ places t (ownAt q) 16 = places-out o (ownAt q) 16 (by 0 16 apart (omega arith)) in
-    let b : places u (currAt q) 16 ≡ places t (currAt q) 16 = places-out o (currAt q) 16 (by 16 16 apart (omega arith)) in
+    let b : places u (currAt q) 16 ≡ places t (currAt q) 16 =
+    places-out o (currAt q) 16 (by 16 16 apart (omega arith)) in
     let c : places u (copyAt q) 8 ≡ places t (copyAt q) 8 = places-out o (copyAt q) 8 (by 32 8 apart (omega arith)) in
     let d : getD u (updateAt q) 0 ≡ getD t (updateAt q) 0 = o .kept (updateAt q) (one apart) in
     rw (a, b, c, d)
@@ -84,7 +85,8 @@ pub works-step :
     → worksOf u (set ws p w) ≡ set (worksOf t ws) p (workWith (ownOf u p) w)
 unfolding worksOf
 works-step t u ws p w l all h =
-    table-set 16 (λ q. workWith (ownOf t q) (getD ws q idle)) (λ q. workWith (ownOf u q) (getD (set ws p w) q idle)) noWork p
+    table-set 16 (λ q. workWith (ownOf t q) (getD ws q idle)) (λ q. workWith (ownOf u q) (getD (set ws p w) q idle))
+    noWork p
     (λ q m c.
     ap (λ o. workWith o (getD (set ws p w) q idle)) (h q m c)
     ∙ ap (workWith (ownOf t q)) (getD-set-other ws p q w idle c))
@@ -94,7 +96,8 @@ works-step t u ws p w l all h =
 
 -- The two kinds of change: in the shared cells,
 pub works-shared :
-    {lo hi : ℕ} {t u : List ℕ} → Only lo hi t u → (ws : List Registers) (p : ℕ) (w : Registers) → p < 16 → length ws ≡ 16
+    {lo hi : ℕ} {t u : List ℕ} → Only lo hi t u → (ws : List Registers) (p : ℕ) (w : Registers) → p < 16
+    → length ws ≡ 16
     → hi ≤ 128 → worksOf u (set ws p w) ≡ set (worksOf t ws) p (workWith (ownOf t p) w)
 works-shared {lo} {hi} {t} {u} o ws p w l all h =
     works-step t u ws p w l all (λ q m c. own-out o q (inr (omega arith)))
@@ -102,7 +105,8 @@ works-shared {lo} {hi} {t} {u} o ws p w l all h =
 
 -- and in the job's own places.
 pub works-own :
-    {t u : List ℕ} (ws : List Registers) (p : ℕ) (w : Registers) → Only (ownAt p) (ownAt p + 64) t u → p < 16 → length ws ≡ 16
+    {t u : List ℕ} (ws : List Registers) (p : ℕ) (w : Registers) → Only (ownAt p) (ownAt p + 64) t u → p < 16
+    → length ws ≡ 16
     → worksOf u (set ws p w) ≡ set (worksOf t ws) p (workWith (ownOf u p) w)
 works-own {t} {u} ws p w o l all =
     works-step t u ws p w l all (λ q m c. own-out o q (apart q c (decLt q p)))
@@ -127,7 +131,8 @@ module _
 
 -- The job's record, of both.
 pub work-at :
-    (t : List ℕ) (ws : List Registers) (p : ℕ) → p < 16 → getD (worksOf t ws) p noWork ≡ workWith (ownOf t p) (getD ws p idle)
+    (t : List ℕ) (ws : List Registers) (p : ℕ) → p < 16
+    → getD (worksOf t ws) p noWork ≡ workWith (ownOf t p) (getD ws p idle)
 unfolding worksOf
 work-at t ws p l = getD-table 16 (λ q. workWith (ownOf t q) (getD ws q idle)) noWork p l
 

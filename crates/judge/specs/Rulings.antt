@@ -1,5 +1,5 @@
--- What a record comes to in a run: once stopped, a run stays so, and the first record of another kind is noted. Ruling is
--- declared in src/lib.rt. Assumes nothing.
+-- What a record comes to in a run: once stopped, a run stays so, and the first record of another kind is noted. Ruling
+-- is declared in src/lib.rt. Assumes nothing.
 use Prim.Native.Nat.{ℕ, zero, suc}
 use mathlib.Core.Bool.{cond}
 use mathlib.Core.Option.{Option, none, some}

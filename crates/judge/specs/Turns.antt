@@ -1,5 +1,5 @@
--- The book says which jobs are active and which one runs on each card, so that an entry is judged without looking through
--- the records. Assumes nothing.
+-- The book says which jobs are active and which one runs on each card, so that an entry is judged without looking
+-- through the records. Assumes nothing.
 use Prim.Native.Nat.{ℕ, _<_}
 use mathlib.Core.Path.{_≡_}
 use mathlib.Core.Logic.{_≢_}

@@ -47,7 +47,8 @@ fn judge_call(
 // A step is judged: 13, card not below P; then 14, no job active on the card.
 fn judge_step(plan: &[u32; PLAN_PLACES], cells: &[u32; CELL_PLACES], card: u32) -> Judgement
     requires { ⌜ sizesIn (now plan) .cards ≤ 8 ⌝ }
-    ensures { λ r. ⌜ ((m : Machine) (x : Tables) → x .cells ≡ now (cells .entry) → Turns (now (plan .entry)) m (bookOf x)
+    ensures { λ r. ⌜ ((m : Machine) (x : Tables) → x .cells ≡ now (cells .entry)
+        → Turns (now (plan .entry)) m (bookOf x)
         → r ≡ judgeStep (planIn (now (plan .entry))) m card) ⌝ }
 {
     if layout::cards(plan) <= card {
@@ -63,7 +64,8 @@ fn judge_step(plan: &[u32; PLAN_PLACES], cells: &[u32; CELL_PLACES], card: u32) 
 // What an entry comes to: kind 0 calls job `first` with update `second`, any other steps card `first`.
 fn judge(plan: &[u32; PLAN_PLACES], cells: &[u32; CELL_PLACES], e: Entry) -> Judgement
     requires { ⌜ (sizesIn (now plan) .jobs ≤ 16) × (sizesIn (now plan) .cards ≤ 8) ⌝ }
-    ensures { λ r. ⌜ ((m : Machine) (x : Tables) → x .cells ≡ now (cells .entry) → Turns (now (plan .entry)) m (bookOf x)
+    ensures { λ r. ⌜ ((m : Machine) (x : Tables) → x .cells ≡ now (cells .entry)
+        → Turns (now (plan .entry)) m (bookOf x)
         → r ≡ judgeEntry (planIn (now (plan .entry))) m e) ⌝ }
 {
     if e.kind == 0 {
@@ -104,7 +106,8 @@ fn other_after(other: u32, place: u32, kind: u32) -> u32
 // The judgement on an entry, unless the run has stopped: then it is refused as the one that stopped it.
 fn judge_going(plan: &[u32; PLAN_PLACES], cells: &[u32; CELL_PLACES], e: Entry) -> Judgement
     requires { ⌜ (sizesIn (now plan) .jobs ≤ 16) × (sizesIn (now plan) .cards ≤ 8) ⌝ }
-    ensures { λ r. ⌜ ((m : Machine) (x : Tables) → x .cells ≡ now (cells .entry) → Turns (now (plan .entry)) m (bookOf x)
+    ensures { λ r. ⌜ ((m : Machine) (x : Tables) → x .cells ≡ now (cells .entry)
+        → Turns (now (plan .entry)) m (bookOf x)
         → r ≡ unlessHalted (bookOf x .halt) (judgeEntry (planIn (now (plan .entry))) m e)) ⌝ }
 {
     let halt = cells::halt(cells);
@@ -122,7 +125,8 @@ pub fn judge_record<'a, 'c>(
     e: Entry,
 ) -> Ruling
     requires { ⌜ (sizesIn (now plan) .jobs ≤ 16) × ((sizesIn (now plan) .cards ≤ 8) × (place ≤ 4000)) ⌝ }
-    ensures { λ r. ⌜ ((m : Machine) (x : Tables) → x .cells ≡ now (cells .entry) → Turns (now (plan .entry)) m (bookOf x)
+    ensures { λ r. ⌜ ((m : Machine) (x : Tables) → x .cells ≡ now (cells .entry)
+        → Turns (now (plan .entry)) m (bookOf x)
         → r ≡ rulingOf (planIn (now (plan .entry))) m (bookOf x) place e) ⌝ }
 {
     let judgement = judge_going(plan, cells, e);

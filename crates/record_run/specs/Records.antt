@@ -27,8 +27,8 @@ pub record Accepts (text : List ℕ) (lines : ℕ) (t : List ℕ) : Type 0 where
   pub listed : List Listed
   pub read : reading Form.PlanAlone text ≡ accepted (planIn t) listed lines
 
--- What there is before the records run, by the verdict: where the text is refused no record runs, and where it is accepted
--- the tables are at the opening.
+-- What there is before the records run, by the verdict: where the text is refused no record runs, and where it is
+-- accepted the tables are at the opening.
 abbrev pub ByVerdict : Verdict → List ℕ → ℕ → ℕ → List ℕ → List ℕ → List ℤ → List ℕ → Type 0
 ByVerdict (Verdict.Refused f line) text count n t cells stat store = n ≡ 0
 ByVerdict (Verdict.Accepted lines) text count n t cells stat store =

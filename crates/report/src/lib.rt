@@ -26,7 +26,8 @@ fn put_report(
     requires { ⌜ Reportable (now plan) (lent (now cells) (now stat) (now store) [] [] [] (now commits)) ⌝ }
     ensures { λ r. ⌜ Writes
         (reportBytes (now (plan .entry))
-        (lent (now (cells .entry)) (now (stat .entry)) (now (store .entry)) [] [] [] (now (commits .entry))) number line)
+        (lent (now (cells .entry)) (now (stat .entry)) (now (store .entry)) [] [] [] (now (commits .entry))) number
+        line)
         200000 0 (now (buffer .entry)) r (now (buffer .exit)) ⌝ }
 {
     let committed = cells::committed(cells) as usize;
@@ -50,7 +51,8 @@ pub fn write(
     requires { ⌜ Reportable (now plan) (lent (now cells) (now stat) (now store) [] [] [] (now commits)) ⌝ }
     ensures { λ r. ⌜ IsWritten
         (reportBytes (now (plan .entry))
-        (lent (now (cells .entry)) (now (stat .entry)) (now (store .entry)) [] [] [] (now (commits .entry))) number line)
+        (lent (now (cells .entry)) (now (stat .entry)) (now (store .entry)) [] [] [] (now (commits .entry))) number
+        line)
         (now (buffer .entry)) r (now (buffer .exit)) ⌝ }
 {
     let mut scratch = [0u8; 1];

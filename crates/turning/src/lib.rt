@@ -12,7 +12,8 @@ use layout::PLAN_PLACES;
 
 // Of the best job so far, N where there is none, and job k: the one of higher priority.
 fn higher_of(plan: &[u32; PLAN_PLACES], best: u32, k: u32) -> u32
-    requires { ⌜ (sizesIn (now plan) .jobs ≤ 16) × ((best ≤ sizesIn (now plan) .jobs) × (k < sizesIn (now plan) .jobs)) ⌝ }
+    requires { ⌜ (sizesIn (now plan) .jobs ≤ 16)
+        × ((best ≤ sizesIn (now plan) .jobs) × (k < sizesIn (now plan) .jobs)) ⌝ }
     ensures { λ r. ⌜ r ≡ higherOf (now (plan .entry)) best k ⌝ }
 {
     if best == layout::jobs(plan) {

@@ -1,5 +1,5 @@
-// "A step changes one job's working record where it is kept": the job's registers are lent, and the covered step's result
-// is stored in them.
+// "A step changes one job's working record where it is kept": the job's registers are lent, and the covered step's
+// result is stored in them.
 ghost use Rattle.cells.specs.Tables.{lent};
 ghost use Rattle.acting.specs.Acting.{Asked, Gives};
 use cells::CELL_PLACES;

@@ -18,7 +18,8 @@ get-requires c κs = search needs
 -- src/lib.rt:131:1
 returns : tie.Need-returns
 returns c none =
-    c .get .ensures ∙ sym (places-at (c .before .args .cells .now) (c .before .args .start) _ _ none (c .before .pre .0))
+    c .get .ensures
+    ∙ sym (places-at (c .before .args .cells .now) (c .before .args .start) _ _ none (c .before .pre .0))
 
 pub number-at-spec : {M : Type 1} → statement M
 number-at-spec = tie.close (tie.spec add-get get-requires returns)

@@ -98,7 +98,8 @@ run-list-requires : tie.Need-run-list-requires
 run-list-requires c κs =
     let r = c .before .before .before .before .before .before .before in
     let s = start (opened r) in (
-      few-entries (s .pre .0) (now (s .args .plan)) (now (s .args .entries)) (s .args .count) (s .args .lines) (reads s),
+      few-entries (s .pre .0) (now (s .args .plan)) (now (s .args .entries)) (s .args .count) (s .args .lines)
+          (reads s),
       starts r (s .pre .0) (reads s),
     )
 
@@ -129,10 +130,12 @@ finish-requires c κs =
     let r = listed q in
     let s = start (opened r) in
     let ran = q .run-list .ensures (starts r (s .pre .0) (reads s)) in (
-      to-report (s .pre .0) (now (s .args .plan)) (now (s .args .entries)) (s .args .count) (s .args .lines) (reads s) (left q) (r .records-of .result) (r .records-of .ensures) ran
+      to-report (s .pre .0) (now (s .args .plan)) (now (s .args .entries)) (s .args .count) (s .args .lines) (reads s)
+          (left q) (r .records-of .result) (r .records-of .ensures) ran
           (e .end-of .result)
           (end-so e),
-      low-line (s .pre .0) (now (s .args .plan)) (now (s .args .entries)) (s .args .count) (s .args .lines) (reads s) (left q) (r .records-of .result) (r .records-of .ensures) ran
+      low-line (s .pre .0) (now (s .args .plan)) (now (s .args .entries)) (s .args .count) (s .args .lines) (reads s)
+          (left q) (r .records-of .result) (r .records-of .ensures) ran
           (e .end-of .result)
           (end-so e),
     )
@@ -150,7 +153,8 @@ returns c =
     let s = start (opened r) in
     let ran = q .run-list .ensures (starts r text reading) in
     same-outcome
-    (the-run text (now (s .args .plan)) (now (s .args .entries)) (s .args .count) (s .args .lines) reading (left q) (r .records-of .result) (r .records-of .ensures) ran (e .end-of .result)
+    (the-run text (now (s .args .plan)) (now (s .args .entries)) (s .args .count) (s .args .lines) reading
+    (left q) (r .records-of .result) (r .records-of .ensures) ran (e .end-of .result)
     (end-so e))
     (f .finish .ensures)
 

@@ -12,7 +12,9 @@ width-requires : tie.Need-width-requires
 width-requires c κs = search needs
 
 add-result : tie.Need-add-result
-add-result c = omega (arith, c .width .ensures, decimal-most (c .before .before .before .args .n), c .before .before .before .pre)
+add-result c =
+    let s = c .before .before .before in
+    omega (arith, c .width .ensures, decimal-most (s .args .n), s .pre)
 
 returns : tie.Need-returns
 returns c =
