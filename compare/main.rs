@@ -26,7 +26,7 @@ const CASES: u64 = 200_000;
 const THREADS: u64 = 2;
 
 /// The stack of each thread.
-const STACK: usize = 512 * 1024;
+const STACK: usize = 256 * 1024;
 
 /// In how many cases each number and each late store has to be met.
 const OFTEN: usize = 100;

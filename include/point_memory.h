@@ -10,7 +10,7 @@
  * - The text and the records are not written to by anyone during the call. The buffer is read and written by this call
  *   alone, and does not overlap the text or the records.
  * - No length exceeds 2^63 - 1 bytes; for records that is 12 bytes each.
- * - There are 512 KB of stack for the call.
+ * - There are 256 KB of stack for the call.
  *
  * Beyond that there is nothing to ensure. Any bytes may stand in a text and in the buffer, any numbers in a record. No
  * state is handed in, and none is kept between calls. Nothing is locked and nothing is allocated on the heap, so
