@@ -21,7 +21,7 @@ use Rattle.model.specs.Ranges.{mostNumbers}
 use Rattle.cells.specs.declared.Registers.{Registers}
 use Rattle.cells.specs.CellTable.{places, currAt}
 use Rattle.cells.specs.Tables.{Own, workWith}
-use Rattle.cells.specs.Fits.{PlanFits, CellsFit, InMove, moveFor, accessFor, blockFor}
+use Rattle.cells.specs.Fits.{PlanFits, CellsFit, InMove, moveFor, blockFor}
 use Rattle.accesses.specs.Onward.{at, onwardIn}
 
 module _ {t : List ℕ} {w : Registers} (h : InMove t w) (o : Own) where
@@ -32,18 +32,6 @@ module _ {t : List ℕ} {w : Registers} (h : InMove t w) (o : Own) where
   -- How many moves the update has.
   pub count-is : length (moves (planIn t) (workWith o w)) ≡ countAt t (w .tr)
   count-is = count-in t (w .tr) (h .update)
-
-  -- The read or write.
-  pub access-is : access (planIn t) (workWith o w) ≡ accessFor t w
-  access-is = rw move-is
-
-  -- Its block.
-  pub block-is : block (planIn t) (workWith o w) ≡ blockFor t w
-  block-is = rw move-is
-
-  -- Its place in that block.
-  pub offset-is : offset (planIn t) (workWith o w) ≡ wordOf (accessFor t w) % sizesIn t .words
-  offset-is = rw move-is
 
   -- What comes after it, by the two tests.
   on-by :

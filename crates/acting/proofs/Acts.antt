@@ -2,8 +2,8 @@
 -- the tables.
 use Prim.Native.Nat.{ℕ, _+_, _≤_, _<_}
 use mathlib.Core.Path.{_≡_, refl, sym, _∙_, ap, subst}
-use mathlib.Core.Logic.{_≢_, inl, inr}
-use mathlib.Core.Bool.{Bool, true, false, false≢true, not, cond, _&&_}
+use mathlib.Core.Logic.{_≢_, inl}
+use mathlib.Core.Bool.{Bool, true, false, false≢true, not, cond}
 use mathlib.Core.List.{List, [], _∷_, _++_, append-nil}
 use mathlib.Core.Option.{Option, none, some}
 use native.Mathlib.Numerals.{add-one}
@@ -28,13 +28,12 @@ use Rattle.model.specs.Ranges.{AtPlace}
 use Rattle.model.proofs.Tests.{and-l}
 use Rattle.cells.specs.declared.Registers.{Registers}
 use Rattle.cells.specs.declared.Change.{Change}
-use Rattle.cells.specs.CellTable.{Only, cellPlaces, otherAt, haltAt, entriesAt, runningAt, activeAt, updateAt}
-use Rattle.cells.specs.Tables.{Tables, Whole, ownOf, workWith, idle, machineOf, sharedOf, worksOf}
-use Rattle.cells.specs.Effects.{storeOf}
+use Rattle.cells.specs.CellTable.{Only, otherAt, haltAt, runningAt, activeAt, updateAt}
+use Rattle.cells.specs.Tables.{Tables, ownOf, workWith, idle, machineOf, sharedOf, worksOf}
 use Rattle.cells.specs.Book.{Book, bookOf, turned, counted, committing, halted, noting, bookAfter}
 use Rattle.cells.proofs.Places.{only-set, places-length}
 use Rattle.cells.proofs.Views.{work-at, works-step, works-length}
-use Rattle.cells.proofs.Books.{OnlyCells, machine-free, whole-so, counted-so, halted-so, noted-so}
+use Rattle.cells.proofs.Books.{OnlyCells, machine-free, whole-so, halted-so, noted-so}
 use Rattle.registers.specs.Registers.{goto}
 use Rattle.judge.specs.Turns.{Turns, OnlyDiffers}
 use Rattle.judge.proofs.Turned.{turns-stay, turns-after}
@@ -42,7 +41,7 @@ use Rattle.acting.specs.Stepping.{Called, Stepped}
 use Rattle.acting.specs.Acting.{commitsAt, rowOf, Judged, Kept, Acts}
 use Rattle.acting.proofs.Items.{returnsBy, returnsIn, commitBy, commitIn, returns-so, commits-so}
 use Rattle.acting.proofs.Items.{item-returns, item-commits}
-use Rattle.acting.proofs.Ready.{plan-fits, the-record, ready}
+use Rattle.acting.proofs.Ready.{plan-fits, the-record}
 
 -- The registers put back where they were.
 put-back : (ws : List Registers) → set ws 0 (getD ws 0 idle) ≡ ws
@@ -341,7 +340,7 @@ commits-one t x p h (Change.Decided g n) e = cc
 commits-one t x p h (Change.Commit g) e = let same : g ≡ h = cc in rw same
 
 -- The place of the label 42 is H42.
-is-H42 : (place : Place) → eqb (label place) 42 ≡ true → place ≡ Place.H42
+pub is-H42 : (place : Place) → eqb (label place) 42 ≡ true → place ≡ Place.H42
 is-H42 Place.Idle t = absurd (false≢true t)
 is-H42 Place.A1 t = absurd (false≢true t)
 is-H42 Place.A2 t = absurd (false≢true t)

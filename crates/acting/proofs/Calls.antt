@@ -1,39 +1,21 @@
 -- A call put into the cells: the update, that the job is active, and one more entry. Assumes nothing.
-use Prim.Native.Nat.{ℕ, _+_, _*_, _≤_, _<_}
+use Prim.Native.Nat.{ℕ, _+_, _≤_, _<_}
 use mathlib.Core.Path.{_≡_, refl, sym, _∙_, ap, subst}
 use mathlib.Core.Logic.{_≢_, _⊎_, inl, inr}
 use mathlib.Core.List.{List}
 use native.Mathlib.Decide.{decLt}
 use native.Mathlib.Omega.{arith}
-use lib.IntN.{ℤ}
 use lib.ListN.{length, getD, set}
 use lib.Seq.{getD-set-same}
 use Rattle.layout.specs.PlanTable.{sizesIn, jobAt}
 use Rattle.cells.specs.CellTable.{places, Only, cellPlaces, entriesAt, activeAt}
 use Rattle.cells.specs.CellTable.{runningAt, ownAt, dirtyAt, currAt, copyAt, updateAt}
-use Rattle.cells.specs.Tables.{Tables, ownOf, cellsOf}
-use Rattle.cells.specs.Book.{Book, bookOf, firstOn, turned, counted}
+use Rattle.cells.specs.Tables.{Tables, ownOf}
+use Rattle.cells.specs.Book.{bookOf, firstOn, turned, counted}
 use Rattle.cells.proofs.Places.{only-set, only-then, places-out}
 use Rattle.cells.proofs.Views.{own-out, cells-out, cells-free}
-use Rattle.cells.proofs.Books.{OnlyCells, book-out, book-turned, counted-so}
+use Rattle.cells.proofs.Books.{with-cells, only-cells, book-out, book-turned, counted-so}
 use Rattle.acting.specs.Stepping.{calledWith, Called}
-
--- The tables with other cells.
-abbrev with-cells : Tables → List ℕ → Tables
-with-cells x l =
-    record {
-      cells = l;
-      stat = x .stat;
-      store = x .store;
-      addr = x .addr;
-      old = x .old;
-      new = x .new;
-      commits = x .commits;
-    }
-
--- Only their cells differ.
-only-cells : (x : Tables) (k l : List ℕ) → OnlyCells (with-cells x k) (with-cells x l)
-only-cells x k l = record { stat = refl; store = refl; addr = refl; old = refl; new = refl; commits = refl }
 
 module _ (t : List ℕ) (job u : ℕ) (c c1 c2 d : List ℕ) (long : length c ≡ cellPlaces) (below : job < 16)
     (low : jobAt t job .card < 8) (put : c1 ≡ set c (updateAt job) u)

@@ -1,7 +1,7 @@
 -- The ranges of the machine, read off as the items of the step list ask for them. Assumes what Kept says of the tables.
-use Prim.Native.Nat.{ℕ, zero, suc, _+_, _*_, _≤_, _<_}
-use mathlib.Core.Path.{_≡_, refl, ap, sym, subst, _∙_}
-use mathlib.Core.Bool.{true, false, _&&_, _||_}
+use Prim.Native.Nat.{ℕ, zero, suc, _*_, _≤_, _<_}
+use mathlib.Core.Path.{_≡_, refl, ap, subst, _∙_}
+use mathlib.Core.Bool.{true, false, _||_}
 use mathlib.Core.List.{List, [], _∷_}
 use native.Mathlib.Nat.{div-lt-iff-lt-mul}
 use native.Mathlib.Omega.{arith}
@@ -13,16 +13,15 @@ use Rattle.format.specs.declared.Job.{Job}
 use Rattle.format.specs.declared.Move.{Move}
 use Rattle.format.specs.Plan.{named}
 use Rattle.format.specs.Faults.{someFrom}
-use Rattle.layout.specs.PlanTable.{sizesIn, updatesIn, jobAt, countAt, planIn}
+use Rattle.layout.specs.PlanTable.{sizesIn, updatesIn, countAt, planIn}
 use Rattle.layout.proofs.PlanIn.{job-in, count-in, move-in, updates-in}
 use Rattle.model.specs.declared.Stage.{Stage}
 use Rattle.model.specs.declared.Place.{Place}
 use Rattle.model.specs.declared.Working.{Working}
 use Rattle.model.specs.Places.{isActive}
-use Rattle.model.specs.Working.{noWork}
 use Rattle.model.specs.Moves.{read, accesses, wordOf, move}
 use Rattle.model.specs.Steps.{mayDecide, replaced}
-use Rattle.model.specs.Machine.{Machine, inRow, sharedIn, workOf}
+use Rattle.model.specs.Machine.{inRow, sharedIn, workOf}
 use Rattle.model.specs.Ranges.{WorkRanges, AtPlace, RoomFor, Inside}
 use Rattle.model.proofs.Tests.{or-l, or-r}
 use Rattle.cells.specs.declared.Registers.{Registers}
@@ -31,7 +30,7 @@ use Rattle.cells.specs.Effects.{Reclaims}
 use Rattle.cells.specs.Book.{bookOf}
 use Rattle.cells.specs.Fits.{PlanFits, CellsFit, RegistersFit, moveFor, InMove, RoomAt}
 use Rattle.cells.proofs.Views.{work-at}
-use Rattle.registers.proofs.Statuses.{there}
+use Rattle.model.proofs.Arrays.{getD-any}
 use Rattle.step_list.specs.Ready.{ReadyAt, Ready}
 use Rattle.acting.specs.Acting.{Kept}
 
@@ -158,7 +157,7 @@ module _ {t : List ℕ} {ws : List Registers} {x : Tables} (k : Kept t ws x) whe
         (k .ranges .reclaims p few)
         at-h25
         (rw
-        (there (x .stat) (w .hid) (pos (sizesIn t .jobs)) (pos 0) (omega (arith, k .whole .stat, registers-fit .hid)))
+        (getD-any (x .stat) (w .hid) (pos (sizesIn t .jobs)) (pos 0) (omega (arith, k .whole .stat, registers-fit .hid)))
         decides)
 
     -- What the place says of the record, as the item at the place asks for it.

@@ -1,12 +1,11 @@
 -- An item and its change carried out, and counted, are a step. Assumes nothing.
 use Prim.Native.Nat.{ℕ, _+_, _<_}
-use mathlib.Core.Path.{_≡_, refl, sym, _∙_, ap, subst}
+use mathlib.Core.Path.{_≡_, sym, _∙_, ap, subst}
 use mathlib.Core.Logic.{inl}
 use mathlib.Core.List.{List}
 use native.Mathlib.Omega.{arith}
 use lib.ListN.{length, getD, set, length-set}
 use Rattle.layout.specs.PlanTable.{planIn}
-use Rattle.model.specs.declared.Store.{Store}
 use Rattle.model.specs.declared.Working.{Working}
 use Rattle.model.specs.declared.Out.{Out}
 use Rattle.model.specs.Steps.{item}

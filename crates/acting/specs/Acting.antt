@@ -17,7 +17,7 @@ use Rattle.model.specs.Entries.{refusalNumber, acted}
 use Rattle.model.specs.Ranges.{Ranges}
 use Rattle.cells.specs.declared.Registers.{Registers}
 use Rattle.cells.specs.Tables.{Tables, Whole, idle, machineOf}
-use Rattle.cells.specs.Book.{Book, bookOf}
+use Rattle.cells.specs.Book.{bookOf}
 use Rattle.judge.specs.declared.Ruling.{Ruling}
 use Rattle.judge.specs.Turns.{Turns}
 use Rattle.judge.specs.Rulings.{changedBy}

@@ -3,7 +3,6 @@
 ghost use mathlib.Core.Path.{_≡_};
 ghost use Prim.Native.Nat.{_+_, _<_};
 ghost use lib.ListN.{length, getD, set};
-ghost use Rattle.model.specs.Entries.{refusalNumber as numberOf};
 ghost use Rattle.cells.specs.CellTable.{cellPlaces, entriesAt};
 ghost use Rattle.cells.specs.Tables.{lent};
 ghost use Rattle.cells.specs.Fits.{PlanFits};
@@ -16,7 +15,6 @@ use judge::Ruling;
 use layout::PLAN_PLACES;
 use model::Judgement;
 use model::Place;
-use model::Refusal;
 
 // One more accepted entry.
 fn count_entry(cells: &mut [u32; CELL_PLACES])
@@ -76,18 +74,6 @@ fn step(
     effect.registers
 }
 
-// The number of a refusal in the table.
-fn refusal_number(refusal: Refusal) -> u32
-    ensures { λ r. ⌜ r ≡ numberOf refusal ⌝ }
-{
-    match refusal {
-        Refusal::NoSuch => 11,
-        Refusal::Active => 12,
-        Refusal::NoCard => 13,
-        Refusal::NoneActive => 14,
-    }
-}
-
 // What a judged entry does: w are the registers of the job that it changes. A refused one stops the run.
 pub fn act<'a, 'b>(
     plan: &'a [u32; PLAN_PLACES],
@@ -116,7 +102,7 @@ pub fn act<'a, 'b>(
         Judgement::Calls(job, update) => call(plan, job, update, w, cells),
         Judgement::Runs(p) => step(plan, p, w, cells, stat, store, addr, old, new, commits),
         Judgement::Refused(r) => {
-            cells::put_halt(cells, refusal_number(r));
+            cells::put_halt(cells, judge::refusal_number(r));
             w
         }
     }

@@ -24,10 +24,10 @@ use Rattle.cells.specs.Book.{bookOf, bookAfter, firstOn, turned}
 use Rattle.cells.proofs.Places.{only-none, only-set, only-then, only-wider}
 use Rattle.cells.proofs.Views.{works-same, works-shared, own-works, cells-out, cells-free, cells-v, cells-ann}
 use Rattle.cells.proofs.Views.{cells-trans, cells-bank, cells-numblks}
-use Rattle.cells.proofs.Books.{book-out, book-turned, whole-still}
+use Rattle.cells.proofs.Books.{with-cells, book-out, book-turned, whole-still}
 use Rattle.carrying.specs.Asks.{Asks}
 use Rattle.carrying.proofs.Book.{book-still, book-committed}
-use Rattle.carrying.proofs.Words.{block-inside}
+use Rattle.changes.proofs.Words.{block-inside}
 
 -- A change of job p carried out, from tables x to tables y.
 abbrev pub Done : List ℕ → ℕ → Change → Tables → Tables → Type 0
@@ -38,10 +38,6 @@ pub low : {t : List ℕ} {p : ℕ} {s : Change} {x : Tables} → Asks t p s x �
 low a = omega (arith, a .plan .job, a .plan .jobs)
 
 module _ (t : List ℕ) (x : Tables) (p : ℕ) where
-  -- The tables with other cells.
-  abbrev with-cells : List ℕ → Tables
-  with-cells u = lent u (x .stat) (x .store) (x .addr) (x .old) (x .new) (x .commits)
-
   pub nothing-done : Asks t p Change.Nothing x → Done t p Change.Nothing x x
   unfolding Carried carriedOut stored
   nothing-done a =
@@ -49,7 +45,7 @@ module _ (t : List ℕ) (x : Tables) (p : ℕ) where
 
   pub version-done :
       (n b : ℕ) (f : Bool) → eqb b 1 ≡ f → Asks t p (Change.Version n f) x
-      → Done t p (Change.Version n f) x (with-cells (set (set (x .cells) 0 n) 1 b))
+      → Done t p (Change.Version n f) x (with-cells x (set (set (x .cells) 0 n) 1 b))
   unfolding Carried carriedOut stored
   version-done n b f e a =
       let o =
@@ -62,7 +58,7 @@ module _ (t : List ℕ) (x : Tables) (p : ℕ) where
 
   pub announced-done :
       (r : ℕ) → Asks t p (Change.Announced r) x
-      → Done t p (Change.Announced r) x (with-cells (set (x .cells) (annAt + r) p))
+      → Done t p (Change.Announced r) x (with-cells x (set (x .cells) (annAt + r) p))
   unfolding Carried carriedOut stored
   announced-done r a =
       let h = a .inside .1 in
@@ -76,7 +72,7 @@ module _ (t : List ℕ) (x : Tables) (p : ℕ) where
       (r : ℕ) → Asks t p (Change.Returned r) x
       → let u = set (x .cells) (annAt + r) (sizesIn t .jobs) in
       Done t p (Change.Returned r) x
-      (with-cells (set (set u (activeAt + p) 0) (runningAt + jobAt t p .card)
+      (with-cells x (set (set u (activeAt + p) 0) (runningAt + jobAt t p .card)
       (firstOn t (set (places u activeAt 16) p 0) (jobAt t p .card) (sizesIn t .jobs))))
   unfolding Carried carriedOut stored
   returned-done r a =
@@ -100,12 +96,12 @@ module _ (t : List ℕ) (x : Tables) (p : ℕ) where
               works-shared all-of ws p w (low a) all (omega arith),
             ),
         (
-          book-turned t (with-cells u) (with-cells (set v (runningAt + card) first)) p 0 (o .long ∙ a .whole .cells)
+          book-turned t (with-cells x u) (with-cells x (set v (runningAt + card) first)) p 0 (o .long ∙ a .whole .cells)
               (low a)
               few
               refl
               refl
-              ∙ ap (turned t p 0) (book-out x (with-cells u) o (inr (inl (omega arith, omega arith))) refl),
+              ∙ ap (turned t p 0) (book-out x (with-cells x u) o (inr (inl (omega arith, omega arith))) refl),
           whole-still x _ (a .whole) (all-of .long) refl refl refl,
         ),
       )
@@ -123,7 +119,7 @@ module _ (t : List ℕ) (x : Tables) (p : ℕ) where
 
   pub trans-done :
       Asks t p Change.Trans x
-      → Done t p Change.Trans x (with-cells (set (x .cells) (transAt + p) (getD (x .cells) (updateAt p) 0)))
+      → Done t p Change.Trans x (with-cells x (set (x .cells) (transAt + p) (getD (x .cells) (updateAt p) 0)))
   unfolding Carried carriedOut stored
   trans-done a =
       let u = getD (x .cells) (updateAt p) 0 in
@@ -204,7 +200,7 @@ module _ (t : List ℕ) (x : Tables) (p : ℕ) where
 
   pub bank-done :
       (b n : ℕ) → Asks t p (Change.Bank b n) x
-      → Done t p (Change.Bank b n) x (with-cells (set (x .cells) (bankAt + b) n))
+      → Done t p (Change.Bank b n) x (with-cells x (set (x .cells) (bankAt + b) n))
   unfolding Carried carriedOut stored
   bank-done b n a =
       let h = a .inside .1 in
@@ -216,7 +212,7 @@ module _ (t : List ℕ) (x : Tables) (p : ℕ) where
 
   pub cleared-done :
       (u : List ℕ) → OwnStep p unmarked (x .cells) u → Asks t p Change.Cleared x
-      → Done t p Change.Cleared x (with-cells u)
+      → Done t p Change.Cleared x (with-cells x u)
   unfolding Carried carriedOut stored
   cleared-done u o a = (
     λ ws w done long all fits.

@@ -1,17 +1,17 @@
 -- The book after a put of one of its counts, and the machine, which no such put changes. Assumes nothing.
 use Prim.Native.Nat.{ℕ, _+_, _≤_, _<_}
-use mathlib.Core.Path.{_≡_, refl, sym, _∙_, ap}
+use mathlib.Core.Path.{_≡_, refl, _∙_, ap}
 use mathlib.Core.Logic.{_⊎_, inl, inr}
 use mathlib.Core.List.{List}
 use native.Mathlib.Omega.{arith}
-use lib.ListN.{length, getD, set, length-set}
-use lib.Seq.{getD-set-same, getD-set-other}
+use lib.ListN.{length, getD, set}
+use lib.Seq.{getD-set-same}
 use Rattle.format.proofs.Tables.{table-same}
 use Rattle.layout.specs.PlanTable.{sizesIn, jobAt}
 use Rattle.cells.specs.declared.Registers.{Registers}
 use Rattle.cells.specs.CellTable.{places, Only, cellPlaces, entriesAt, committedAt, haltAt, otherAt}
 use Rattle.cells.specs.CellTable.{runningAt, activeAt}
-use Rattle.cells.specs.Tables.{Tables, Whole, ownOf, workWith, idle, worksOf, machineOf}
+use Rattle.cells.specs.Tables.{Tables, lent, Whole, workWith, idle, worksOf, machineOf}
 use Rattle.cells.specs.Book.{bookOf, firstOn, turned, counted, halted, noting}
 use Rattle.cells.proofs.Places.{only-set, places-out, places-in}
 use Rattle.cells.proofs.Views.{own-out, cells-free}
@@ -53,6 +53,14 @@ pub record OnlyCells (x y : Tables) : Type 0 where
   pub old : y .old ≡ x .old
   pub new : y .new ≡ x .new
   pub commits : y .commits ≡ x .commits
+
+-- Tables with other cells.
+abbrev pub with-cells : Tables → List ℕ → Tables
+with-cells x cells = lent cells (x .stat) (x .store) (x .addr) (x .old) (x .new) (x .commits)
+
+-- Only their cells differ.
+pub only-cells : (x : Tables) (k l : List ℕ) → OnlyCells (with-cells x k) (with-cells x l)
+only-cells x k l = record { stat = refl; store = refl; addr = refl; old = refl; new = refl; commits = refl }
 
 module _ (x y : Tables) (same : OnlyCells x y) where
   -- The machine is the same, where only such places differ.

@@ -1,8 +1,7 @@
--- A places of a table, read and stored into; a store in one place leaves every places that does not have it. Assumes
--- nothing.
-use Prim.Native.Nat.{ℕ, zero, suc, _+_, _*_, _≤_, _<_}
+-- Places of a table in a row, read and stored into; a store elsewhere leaves them as they are. Assumes nothing.
+use Prim.Native.Nat.{ℕ, suc, _+_, _≤_, _<_}
 use mathlib.Core.Path.{_≡_, refl, sym, _∙_, ap}
-use mathlib.Core.Logic.{_≢_, _⊎_, inl, inr, ⊎-elim}
+use mathlib.Core.Logic.{_≢_, _⊎_, inl, inr}
 use mathlib.Core.List.{List, [], _∷_}
 use native.Mathlib.Decide.{ℕ-discrete}
 use native.Mathlib.Omega.{arith}
@@ -98,7 +97,7 @@ places-out {lo} {hi} {t} {u} o at n apart =
     there i l (inl h) = inl (omega arith)
     there i l (inr h) = inr (omega arith)
 
--- A store into a places.
+-- A store into one of them.
 pub places-in :
     (t : List ℕ) (at n i x : ℕ) → i < n → at + i < length t → places (set t (at + i) x) at n ≡ set (places t at n) i x
 unfolding places

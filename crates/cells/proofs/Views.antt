@@ -1,8 +1,8 @@
 -- The machine of the tables after a store. Assumes nothing.
 use Prim.Native.Nat.{ℕ, _+_, _*_, _≤_, _<_}
-use mathlib.Core.Path.{_≡_, refl, sym, _∙_, ap}
+use mathlib.Core.Path.{_≡_, refl, _∙_, ap}
 use mathlib.Core.Logic.{_≢_, _⊎_, inl, inr}
-use mathlib.Core.List.{List, [], _∷_}
+use mathlib.Core.List.{List}
 use native.Mathlib.Decide.{decLt}
 use native.Mathlib.Omega.{arith}
 use lib.Dec.{eqb}
@@ -11,15 +11,14 @@ use lib.ListN.{length, getD, set}
 use lib.Seq.{getD-set-same, getD-set-other}
 use Rattle.format.specs.Plan.{table}
 use Rattle.format.proofs.Tables.{length-table, getD-table}
-use Rattle.model.specs.declared.Working.{Working}
 use Rattle.model.specs.Working.{noWork}
 use Rattle.model.specs.Cells.{withV, withAnn, withTrans, withBank, withNumblks}
 use Rattle.cells.specs.declared.Registers.{Registers}
-use Rattle.cells.specs.CellTable.{places, Only, annAt, transAt, bankAt, numblksAt, ownAt, dirtyAt, currAt}
+use Rattle.cells.specs.CellTable.{places, Only, annAt, transAt, bankAt, numblksAt, ownAt, currAt}
 use Rattle.cells.specs.CellTable.{copyAt, updateAt, cellPlaces}
 use Rattle.cells.specs.Tables.{Own, ownOf, cellsOf, workWith, idle, worksOf}
 use Rattle.cells.specs.Effects.{marking, OwnStep}
-use Rattle.cells.proofs.Places.{places-at, only-set, only-then, places-out, places-in, table-set}
+use Rattle.cells.proofs.Places.{only-set, only-then, places-out, places-in, table-set}
 
 -- A job's own places, apart from the places that differ.
 pub own-out :
@@ -55,7 +54,7 @@ cells-out o s h =
       places-out o numblksAt 16 (inl (omega arith)),
     )
 
--- The same where only places differ that no places of the machine has.
+-- The same where only places differ that hold no cell of the machine.
 pub cells-free :
     {lo hi : ℕ} {t u : List ℕ} → Only lo hi t u → (s : List ℤ)
     → ((2 ≤ lo) × (hi ≤ 8)) ⊎ ((16 ≤ lo) × (hi ≤ 64)) → cellsOf u s ≡ cellsOf t s
@@ -78,7 +77,7 @@ cells-free o s (inr h) =
       places-out o numblksAt 16 (inr (omega (arith, h .1))),
     )
 
--- One small record stored, and no other job's own places changed.
+-- One job's registers stored, and no other job's own places changed.
 pub works-step :
     (t u : List ℕ) (ws : List Registers) (p : ℕ) (w : Registers) → p < 16 → length ws ≡ 16
     → ((q : ℕ) → q < 16 → q ≢ p → ownOf u q ≡ ownOf t q)

@@ -9,7 +9,7 @@ use mir.ValLaws.{toZ-ofZ}
 use lib.IntN.{ℤ, pos, negsuc}
 use lib.ListN.{length, getD}
 use Rattle.model.specs.Ranges.{Names}
-use Rattle.registers.proofs.Statuses.{there}
+use Rattle.model.proofs.Arrays.{getD-any}
 
 -- The number of a status that names a job fits.
 names-fits : (z : ℤ) → Names z → SFits w32 z
@@ -23,4 +23,4 @@ names-back z h = toZ-ofZ w32 z (names-fits z h)
 -- The bits of a status that was read tell it, whatever stands for the places that the list has not.
 pub read-back : (l : List ℤ) (i : ℕ) (none : ℤ) → i < length l → SFits w32 (getD l i (pos 0))
     → toZ w32 (ofZ w32 (getD l i (pos 0))) ≡ getD l i none
-read-back l i none few fits = toZ-ofZ w32 (getD l i (pos 0)) fits ∙ there l i (pos 0) none few
+read-back l i none few fits = toZ-ofZ w32 (getD l i (pos 0)) fits ∙ getD-any l i (pos 0) none few

@@ -31,7 +31,7 @@ use Rattle.run_loop.specs.Reached.{Reached}
 use Rattle.report_lines.specs.Lines.{rowLines, openBytes, opensBytes}
 use Rattle.report.specs.Writing.{Reportable, reportBytes}
 
--- A report can be written from tables without their rows where it can from the whole tables,
+-- A report can be written from tables without their rows where it can from the whole tables.
 pub reportable-rowless : {t : List ℕ} {x : Tables} → Reportable t x
     → Reportable t (lent (x .cells) (x .stat) (x .store) [] [] [] (x .commits))
 reportable-rowless r =
@@ -50,12 +50,6 @@ reportable-rowless r =
       bank = r .bank;
       stat = r .stat;
     }
-
--- and it is the same.
-pub report-rowless : (t : List ℕ) (x : Tables) (number line : ℕ)
-    → reportBytes t (lent (x .cells) (x .stat) (x .store) [] [] [] (x .commits)) number line
-    ≡ reportBytes t x number line
-report-rowless t x number line = refl
 
 -- The report's commit lines are those of the rows.
 commit-lines : (es : List Entry) (cs : List Commit) → rowLines (rowsIn es cs) ≡ commitLines es cs

@@ -4,7 +4,6 @@ ghost use mathlib.Core.Path.{_≡_};
 ghost use mathlib.Core.List.{[]};
 ghost use Prim.Native.Nat.{_≤_};
 ghost use Rattle.format.specs.Faults.{numberOf};
-ghost use Rattle.model.specs.Entries.{refusalNumber as numberInTable};
 ghost use Rattle.runs.specs.Report.{endNumber, endLine};
 ghost use Rattle.runs.specs.Runs.{reported, endOf};
 ghost use Rattle.cells.specs.Tables.{lent};
@@ -14,7 +13,6 @@ ghost use Rattle.ending.specs.Finishing.{WrittenOut};
 use cells::CELL_PLACES;
 use format::Fault;
 use layout::PLAN_PLACES;
-use model::Refusal;
 use report::Written;
 use runs::End;
 
@@ -42,18 +40,6 @@ pub fn fault_number(fault: Fault) -> usize
     }
 }
 
-// The number of a refusal in the table.
-fn refusal_number(refusal: Refusal) -> usize
-    ensures { λ r. ⌜ (r ≡ numberInTable refusal) × (r ≤ 15) ⌝ }
-{
-    match refusal {
-        Refusal::NoSuch => 11,
-        Refusal::Active => 12,
-        Refusal::NoCard => 13,
-        Refusal::NoneActive => 14,
-    }
-}
-
 // The number of an end in the table.
 pub fn end_number(end: End) -> usize
     ensures { λ r. ⌜ (r ≡ endNumber end) × (r ≤ 15) ⌝ }
@@ -61,7 +47,7 @@ pub fn end_number(end: End) -> usize
     match end {
         End::Accepted(n) => 0,
         End::Faulty(f, n) => fault_number(f),
-        End::Refused(r, n) => refusal_number(r),
+        End::Refused(r, n) => judge::refusal_number(r) as usize,
         End::NoRoom => 15,
     }
 }

@@ -6,10 +6,10 @@ use Prim.Native.Nat.{ℕ, zero, suc, _+_, _*_, _≤_, _<_}
 use mathlib.Core.Path.{_≡_, refl, sym, _∙_, ap, subst}
 use mathlib.Core.Bool.{Bool, true, false, cond, _&&_}
 use mathlib.Core.List.{List, [], _∷_, _++_}
-use mathlib.Core.Option.{Option, none, some, Option·none-ne-some, Option·some-ne-none, Option·some-injective}
+use mathlib.Core.Option.{Option, none, some}
 use native.Mathlib.Decide.{ℕ-discrete}
 use native.Mathlib.Omega.{arith}
-use borrow.Author.Tests.{eq-eqb, ne-eqb, eqb-true}
+use borrow.Author.Tests.{eq-eqb, ne-eqb}
 use lib.Dec.{eqb, ltb}
 use lib.ListN.{length, getD, set}
 use lib.Seq.{getD-set-same, getD-set-other}
@@ -25,7 +25,7 @@ use Rattle.model.specs.Entries.{refusalNumber, activeOn, higher, runsOn}
 use Rattle.cells.specs.Book.{Book, higherOf, firstOn, turned}
 use Rattle.cells.specs.Fits.{PlanFits}
 use Rattle.judge.specs.Turns.{orNone, ActiveAre, Turns, OnlyDiffers}
-use Rattle.judge.specs.Rulings.{refusalNumbered, haltOf}
+use Rattle.judge.specs.Rulings.{haltOf}
 use Rattle.judge.proofs.Runs.{Below, runs-below}
 
 or-none-test : (t : Bool) (jobs k p : ℕ) → orNone jobs (cond t (some k) (some p)) ≡ cond t k p
@@ -202,19 +202,3 @@ halted-is Refusal.NoSuch = refl
 halted-is Refusal.Active = refl
 halted-is Refusal.NoCard = refl
 halted-is Refusal.NoneActive = refl
-
--- A run that goes on has 0 there.
-pub halt-none : (n : ℕ) → haltOf n ≡ none → n ≡ 0
-halt-none n e = by (eqb n 0) refl e
-  where
-    by : (x : Bool) → eqb n 0 ≡ x → cond x none (some (refusalNumbered n)) ≡ none → n ≡ 0
-    by true z h = eqb-true n 0 z
-    by false z h = absurd (Option·some-ne-none (refusalNumbered n) h)
-
--- And one that has stopped, the number of the refusal.
-pub halt-some : (n : ℕ) (r : Refusal) → haltOf n ≡ some r → (eqb n 0 ≡ false) × (refusalNumbered n ≡ r)
-halt-some n r e = by (eqb n 0) e
-  where
-    by : (x : Bool) → cond x none (some (refusalNumbered n)) ≡ some r → (x ≡ false) × (refusalNumbered n ≡ r)
-    by true h = absurd (Option·none-ne-some r h)
-    by false h = (refl, Option·some-injective (refusalNumbered n) r h)

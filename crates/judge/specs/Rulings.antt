@@ -1,6 +1,6 @@
 -- What a record comes to in a run: once stopped, a run stays so, and the first record of another kind is noted. Ruling
 -- is declared in src/lib.rt. Assumes nothing.
-use Prim.Native.Nat.{ℕ, zero, suc}
+use Prim.Native.Nat.{ℕ}
 use mathlib.Core.Bool.{cond}
 use mathlib.Core.Option.{Option, none, some}
 use lib.Dec.{eqb, ltb}

@@ -1,9 +1,9 @@
 // What an entry comes to in a state: a call, an item of a job, or a refusal; and what a record comes to in a run.
 ghost use mathlib.Core.Path.{_≡_};
-ghost use Prim.Native.Nat.{ℕ, _≤_};
+ghost use Prim.Native.Nat.{_≤_};
 ghost use Rattle.layout.specs.PlanTable.{sizesIn, planIn};
 ghost use Rattle.model.specs.Machine.{Machine};
-ghost use Rattle.model.specs.Entries.{judgeCall, judgeStep, judge as judgeEntry};
+ghost use Rattle.model.specs.Entries.{judgeCall, judgeStep, judge as judgeEntry, refusalNumber as numberOf};
 ghost use Rattle.cells.specs.Tables.{Tables};
 ghost use Rattle.cells.specs.Book.{bookOf};
 ghost use Rattle.judge.specs.Turns.{ActiveAre, Turns};
@@ -72,6 +72,18 @@ fn judge(plan: &[u32; PLAN_PLACES], cells: &[u32; CELL_PLACES], e: Entry) -> Jud
         return judge_call(plan, cells, e.first, e.second);
     }
     judge_step(plan, cells, e.first)
+}
+
+// The number of a refusal in the table.
+pub fn refusal_number(refusal: Refusal) -> u32
+    ensures { λ r. ⌜ (r ≡ numberOf refusal) × (r ≤ 15) ⌝ }
+{
+    match refusal {
+        Refusal::NoSuch => 11,
+        Refusal::Active => 12,
+        Refusal::NoCard => 13,
+        Refusal::NoneActive => 14,
+    }
 }
 
 // The refusal of a number from 11 to 14.

@@ -1,2 +1,2 @@
--- Registers with one thing changed.
+-- Registers on to another place, and the effects that items give.
 pub mod Registers

@@ -3,15 +3,14 @@
 -- says so.
 use Prim.Native.Nat.{ℕ, _+_, _<_}
 use mathlib.Core.Path.{_≡_, refl, sym, _∙_, ap, subst}
-use mathlib.Core.Bool.{Bool, true, false, false≢true, cond, _&&_}
-use mathlib.Core.List.{List, [], _∷_, _++_, foldl, map, append-nil, append-assoc}
+use mathlib.Core.Bool.{Bool, true, false, cond, _&&_}
+use mathlib.Core.List.{List, [], _∷_, _++_, foldl, foldl-append, map-append, append-nil, append-assoc}
 use mathlib.Core.Option.{none, some}
 use lib.Dec.{eqb}
 use lib.ListN.{length}
 use Rattle.format.specs.declared.Entry.{Entry}
 use Rattle.format.specs.Plan.{Plan}
 use Rattle.format.specs.Sound.{Sound}
-use Rattle.model.specs.declared.Place.{Place}
 use Rattle.model.specs.declared.Refusal.{Refusal}
 use Rattle.model.specs.declared.Judgement.{Judgement}
 use Rattle.model.specs.Memory.{jobOf, updateOf}
@@ -38,42 +37,8 @@ use Rattle.model.proofs.Tests.{and-l, and-r}
 use Rattle.model.proofs.Events.{commits-out, commits-last}
 use Rattle.model.proofs.Reached.{always}
 use Rattle.ranges.proofs.Ranges.{in-range, commit-named}
+use Rattle.acting.proofs.Acts.{is-H42}
 use Rattle.run_loop.specs.Rows.{rowIn, rowsIn}
-
--- Folding over one more element.
-fold-more : {A B : Type 0} (f : B → A → B) (b : B) (xs ys : List A) → foldl f b (xs ++ ys) ≡ foldl f (foldl f b xs) ys
-fold-more f b [] ys = refl
-fold-more f b (x ∷ xs) ys = fold-more f (f b x) xs ys
-
--- The place of the label 42 is H42.
-is-H42 : (place : Place) → eqb (label place) 42 ≡ true → place ≡ Place.H42
-is-H42 Place.Idle t = absurd (false≢true t)
-is-H42 Place.A1 t = absurd (false≢true t)
-is-H42 Place.A2 t = absurd (false≢true t)
-is-H42 Place.A4 t = absurd (false≢true t)
-is-H42 Place.A7 t = absurd (false≢true t)
-is-H42 Place.A10 t = absurd (false≢true t)
-is-H42 Place.A12 t = absurd (false≢true t)
-is-H42 Place.A14 t = absurd (false≢true t)
-is-H42 Place.A15 t = absurd (false≢true t)
-is-H42 Place.H16 t = absurd (false≢true t)
-is-H42 Place.H17 t = absurd (false≢true t)
-is-H42 Place.H21 t = absurd (false≢true t)
-is-H42 (Place.Move st) t = absurd (false≢true t)
-is-H42 Place.H22 t = absurd (false≢true t)
-is-H42 Place.H25 t = absurd (false≢true t)
-is-H42 Place.H32 t = absurd (false≢true t)
-is-H42 Place.H34 t = absurd (false≢true t)
-is-H42 Place.H36 t = absurd (false≢true t)
-is-H42 Place.H37 t = absurd (false≢true t)
-is-H42 Place.H38 t = absurd (false≢true t)
-is-H42 Place.H41 t = absurd (false≢true t)
-is-H42 Place.H42 t = refl
-
--- Mapping over two lists, one behind the other.
-map-more : {A B : Type 0} (f : A → B) (xs ys : List A) → map f (xs ++ ys) ≡ map f xs ++ map f ys
-map-more f [] ys = refl
-map-more f (x ∷ xs) ys = ap (λ l. f x ∷ l) (map-more f xs ys)
 
 module _ (plan : Plan) where
   -- A run that goes on after some entries.
@@ -81,7 +46,7 @@ module _ (plan : Plan) where
       → runOf plan (es ++ (e ∷ [])) ≡ judged plan (runOf plan es) (judge plan (runOf plan es .machine) e)
   unfolding runOf entered
   run-more es e going =
-      fold-more (entered plan) (begun plan) es (e ∷ [])
+      foldl-append (entered plan) (begun plan) es (e ∷ [])
       ∙ ap (λ f. unlessRefused f (runOf plan es) (judged plan (runOf plan es) (judge plan (runOf plan es .machine) e)))
       going
 
@@ -97,7 +62,7 @@ module _ (plan : Plan) where
   pub run-stopped : (es fs : List Entry) (x : Refusal) → runOf plan es .refusal ≡ some x
       → runOf plan (es ++ fs) ≡ runOf plan es
   unfolding runOf
-  run-stopped es fs x e = fold-more (entered plan) (begun plan) es fs ∙ stopped (runOf plan es) x fs e
+  run-stopped es fs x e = foldl-append (entered plan) (begun plan) es fs ∙ stopped (runOf plan es) x fs e
 
   -- A refused entry ends the run: the state and the history stay, whatever comes behind it.
   run-refused : (es : List Entry) (e : Entry) (fs : List Entry) (x : Refusal) → runOf plan es .refusal ≡ none
@@ -106,7 +71,7 @@ module _ (plan : Plan) where
       ≡ record { machine = runOf plan es .machine; history = runOf plan es .history; refusal = some x }
   unfolding runOf entered acted
   run-refused es e fs x going told =
-      fold-more (entered plan) (begun plan) es (e ∷ fs)
+      foldl-append (entered plan) (begun plan) es (e ∷ fs)
       ∙ ap
       (λ f.
       foldl (entered plan)
@@ -120,7 +85,7 @@ module _ (plan : Plan) where
       → rowsIn all (commitsIn (h ++ (e ∷ [])))
       ≡ rowsIn all (commitsIn h)
       ++ cond b ((e .entry ∷ jobOf all (e .helped) ∷ updateOf all (e .helped) ∷ []) ∷ []) []
-  rows-more all h e true t = ap (rowsIn all) (commits-last h e t) ∙ map-more (rowIn all) (commitsIn h) _
+  rows-more all h e true t = ap (rowsIn all) (commits-last h e t) ∙ map-append (rowIn all) (commitsIn h) _
   rows-more all h e false t = ap (rowsIn all) (commits-out h e t) ∙ sym (append-nil _)
 
   -- A call adds no row.

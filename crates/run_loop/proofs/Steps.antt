@@ -14,11 +14,10 @@ use Rattle.format.specs.Plan.{Plan}
 use Rattle.format.specs.Sound.{Sound}
 use Rattle.layout.specs.PlanTable.{planIn}
 use Rattle.model.specs.declared.Working.{Working}
-use Rattle.model.specs.declared.Refusal.{Refusal}
 use Rattle.model.specs.declared.Judgement.{Judgement}
 use Rattle.model.specs.Places.{isActive}
 use Rattle.model.specs.Machine.{Machine}
-use Rattle.model.specs.Entries.{refusalNumber, judge, acted}
+use Rattle.model.specs.Entries.{judge, acted}
 use Rattle.model.specs.History.{Event, commitsIn, recorded, refusalIn, judged, Run, runOf}
 use Rattle.model.specs.Ranges.{Ranges}
 use Rattle.model.proofs.Lists.{call-judged, step-judged, job-seen}
@@ -26,18 +25,12 @@ use Rattle.cells.specs.declared.Registers.{Registers}
 use Rattle.cells.specs.Tables.{Tables, machineOf}
 use Rattle.cells.specs.Book.{bookOf}
 use Rattle.judge.specs.Rulings.{refusalNumbered, haltOf, otherAfter, unlessHalted, changedBy}
+use Rattle.judge.proofs.Turned.{halted-is}
 use Rattle.acting.specs.Acting.{rowsBy, entriesBy, haltBy, Judged, Kept, Acts}
 use Rattle.run_loop.specs.Rows.{rowsIn}
 use Rattle.run_loop.specs.Reached.{placeOf, Reached}
 use Rattle.run_loop.proofs.Onward.{run-more, run-stopped, rows-call, rows-step, accepted-range}
 use Rattle.run_loop.proofs.Others.{other-kept}
-
--- The refusal of a refusal's own number.
-numbered-back : (x : Refusal) → haltOf (refusalNumber x) ≡ some x
-numbered-back Refusal.NoSuch = refl
-numbered-back Refusal.Active = refl
-numbered-back Refusal.NoCard = refl
-numbered-back Refusal.NoneActive = refl
 
 -- A judgement that no refusal is was made while the run went on: it is the judgement on the entry, and no number of a
 -- refusal is kept.
@@ -97,7 +90,7 @@ next-run plan es e halt j = by (eqb halt 0)
 halted : (halt : ℕ) (a j : Judgement) → unlessHalted halt a ≡ j → haltOf (haltBy j halt) ≡ refusalIn j
 halted halt a (Judgement.Calls job u) is = went-on halt a (Judgement.Calls job u) refl is .1
 halted halt a (Judgement.Runs p) is = went-on halt a (Judgement.Runs p) refl is .1
-halted halt a (Judgement.Refused x) is = numbered-back x
+halted halt a (Judgement.Refused x) is = halted-is x
 
 -- How many events there are.
 recorded-many : (plan : Plan) (m : Machine) (h : List Event) (j : Judgement)

@@ -21,7 +21,7 @@ use Rattle.model.specs.declared.Refusal.{Refusal}
 use Rattle.model.specs.History.{Run, runOf}
 use Rattle.runs.specs.declared.End.{End}
 use Rattle.runs.specs.Report.{endNumber, endLine}
-use Rattle.runs.specs.Runs.{Outcome, refused, reported, endOf, outcomeOf, lineIn, ofReading, runText}
+use Rattle.runs.specs.Runs.{refused, reported, endOf, lineIn, ofReading, runText}
 use Rattle.cells.specs.Tables.{Tables, lent}
 use Rattle.cells.specs.Book.{bookOf}
 use Rattle.judge.specs.Rulings.{haltOf}

@@ -11,7 +11,7 @@ use Rattle.cells.specs.declared.Registers.{Registers}
 use Rattle.cells.specs.CellTable.{otherAt}
 use Rattle.cells.specs.Tables.{Tables, lent, idle, machineOf}
 use Rattle.cells.specs.Book.{bookOf}
-use Rattle.cells.proofs.Books.{OnlyCells}
+use Rattle.cells.proofs.Books.{OnlyCells, with-cells, only-cells}
 use Rattle.judge.specs.Rulings.{changedBy}
 use Rattle.acting.specs.Acting.{Judged, Kept, Acts}
 use Rattle.acting.proofs.Ready.{plan-fits, ready}
@@ -28,10 +28,12 @@ tables s =
     (now (a .commits))
 
 -- And with other cells.
-abbrev with-cells : tie.Start → List ℕ → Tables
-with-cells s cells =
-    let a = s .args in
-    lent cells (now (a .stat)) (now (a .store)) (now (a .addr)) (now (a .old)) (now (a .new)) (now (a .commits))
+abbrev others : tie.Start → List ℕ → Tables
+others s cells = with-cells (tables s) cells
+
+-- Only these differ.
+same : (s : tie.Start) (cells : List ℕ) → OnlyCells (tables s) (others s cells)
+same s cells = only-cells (tables s) (now (s .args .cells)) cells
 
 -- The place of the first record of another kind is noted in these cells.
 abbrev Noted : tie.Start → List ℕ → Type 0
@@ -41,24 +43,20 @@ Noted s cells = cells ≡ set (now (s .args .cells)) otherAt (s .args .ruling .o
 abbrev plan-of : tie.Start → List ℕ
 plan-of s = now (s .args .plan)
 
--- Only cells differ.
-same : (s : tie.Start) (cells : List ℕ) → OnlyCells (tables s) (with-cells s cells)
-same s cells = record { stat = refl; store = refl; addr = refl; old = refl; new = refl; commits = refl }
-
 -- What is known of the tables then, with any registers that the start is given.
 module _ (s : tie.Start) (cells : List ℕ) (put : Noted s cells) (ws : List Registers)
     (k : Kept (plan-of s) ws (tables s)) where
-  then : Kept (plan-of s) ws (with-cells s cells)
-  then = noted k (with-cells s cells) (s .args .ruling .other) (same s cells) put
+  then : Kept (plan-of s) ws (others s cells)
+  then = noted k (others s cells) (s .args .ruling .other) (same s cells) put
 
   -- The judgement that is told, in the tables then.
   module _ (j : Judgement) (told : s .args .ruling .judgement ≡ j)
       (judged : Judged (planIn (plan-of s)) (machineOf (tables s) ws) (bookOf (tables s) .entries)
       (s .args .ruling .judgement)) (its : getD ws (changedBy (s .args .ruling .judgement)) idle ≡ s .args .w) where
-    judged-then : Judged (planIn (plan-of s)) (machineOf (with-cells s cells) ws)
-        (bookOf (with-cells s cells) .entries) j
+    judged-then : Judged (planIn (plan-of s)) (machineOf (others s cells) ws)
+        (bookOf (others s cells) .entries) j
     judged-then =
-        judged-noted k (with-cells s cells) (s .args .ruling .other) (same s cells) put j
+        judged-noted k (others s cells) (s .args .ruling .other) (same s cells) put j
         (subst (Judged (planIn (plan-of s)) (machineOf (tables s) ws) (bookOf (tables s) .entries)) told judged)
 
     its-then : getD ws (changedBy j) idle ≡ s .args .w
@@ -66,12 +64,12 @@ module _ (s : tie.Start) (cells : List ℕ) (put : Noted s cells) (ws : List Reg
 
     -- What acting on it gives, from the start.
     acts-then : (r : Registers) (z : Tables)
-        → Acts (plan-of s) j (bookOf (with-cells s cells) .other) ws (with-cells s cells) (set ws (changedBy j) r) z
+        → Acts (plan-of s) j (bookOf (others s cells) .other) ws (others s cells) (set ws (changedBy j) r) z
         → Acts (plan-of s) (s .args .ruling .judgement) (s .args .ruling .other) ws (tables s)
         (set ws (changedBy (s .args .ruling .judgement)) r) z
     acts-then r z a =
         subst (λ q. Acts (plan-of s) q (s .args .ruling .other) ws (tables s) (set ws (changedBy q) r) z) (sym told)
-        (acts-noted k (with-cells s cells) (s .args .ruling .other) (same s cells) put j (set ws (changedBy j) r) z a)
+        (acts-noted k (others s cells) (s .args .ruling .other) (same s cells) put j (set ws (changedBy j) r) z a)
 
 put-other-requires : tie.Need-put-other-requires
 put-other-requires c κs = search needs
@@ -163,7 +161,7 @@ returns-3 c ws k d e =
     acts-then s _ put ws k _ told d e _ _
     (refuse-acts (then s _ put ws k) _ _ (s .args .w)
     (record { stat = refl; store = refl; addr = refl; old = refl; new = refl; commits = refl })
-    (rw (← c .before .refusal-number .ensures) (c .put-halt .ensures))
+    (rw (← c .before .refusal-number .ensures .0) (c .put-halt .ensures))
     (its-then s _ put ws k _ told d e))
 
 pub act-spec : {M : Type 1} → statement M

@@ -9,7 +9,7 @@ use mir.Val.{toZ}
 use mir.ValLaws.{toZ-ofZ}
 use denote.Ref.{now}
 use Rattle.layout.specs.PlanTable.{sizesIn}
-use Rattle.carrying.proofs.Words.{block-inside, block-after}
+use Rattle.changes.proofs.Words.{block-inside, block-after}
 use Rattle.carrying.proofs.Carrying.{
   low,
   nothing-done,
@@ -32,16 +32,16 @@ use Rattle.carrying.proofs.carry_out.Statement.{statement}
 use Rattle.carrying.proofs.carry_out.Tie as tie
 use Rattle.carrying.proofs.carry_out.Reads as reads
 use Rattle.carrying.proofs.carry_out.Lts as lts
-use Rattle.carrying.proofs.add_commit.Reads as add-commit-reads
-use Rattle.carrying.proofs.announce_update.Reads as announce-update-reads
-use Rattle.carrying.proofs.clear.Reads as clear-reads
-use Rattle.carrying.proofs.copy_words.Reads as copy-words-reads
-use Rattle.carrying.proofs.decide.Reads as decide-reads
-use Rattle.carrying.proofs.mark.Reads as mark-reads
-use Rattle.carrying.proofs.published.Reads as published-reads
-use Rattle.carrying.proofs.put_in_row.Reads as put-in-row-reads
-use Rattle.carrying.proofs.put_status.Reads as put-status-reads
-use Rattle.carrying.proofs.put_word.Reads as put-word-reads
+use Rattle.changes.proofs.add_commit.Reads as add-commit-reads
+use Rattle.changes.proofs.announce_update.Reads as announce-update-reads
+use Rattle.changes.proofs.clear.Reads as clear-reads
+use Rattle.changes.proofs.copy_words.Reads as copy-words-reads
+use Rattle.changes.proofs.decide.Reads as decide-reads
+use Rattle.changes.proofs.mark.Reads as mark-reads
+use Rattle.changes.proofs.published.Reads as published-reads
+use Rattle.changes.proofs.put_in_row.Reads as put-in-row-reads
+use Rattle.changes.proofs.put_status.Reads as put-status-reads
+use Rattle.changes.proofs.put_word.Reads as put-word-reads
 use Rattle.cells.proofs.put_ann.Reads as put-ann-reads
 use Rattle.cells.proofs.put_bank.Reads as put-bank-reads
 use Rattle.cells.proofs.put_numblks.Reads as put-numblks-reads

@@ -1,3 +1,4 @@
+-- Whether job k is active.
 use borrow.Author.Needs.{needs}
 use Rattle.cells.proofs.is_active.Statement.{statement}
 use Rattle.cells.proofs.is_active.Tie as tie

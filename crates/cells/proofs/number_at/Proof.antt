@@ -1,3 +1,4 @@
+-- Number i of the n from a start on.
 use mathlib.Core.Path.{sym, _∙_}
 use Rattle.cells.proofs.Places.{places-at}
 use borrow.Author.Needs.{needs}

@@ -1,3 +1,4 @@
+-- Puts V.
 use borrow.Author.Needs.{needs}
 use Rattle.cells.proofs.put_version.Statement.{statement}
 use Rattle.cells.proofs.put_version.Tie as tie

@@ -1,3 +1,4 @@
+-- Puts V, its flag as a number.
 use borrow.Author.Needs.{needs}
 use Rattle.cells.proofs.put_version_bits.Statement.{statement}
 use Rattle.cells.proofs.put_version_bits.Tie as tie

@@ -1,3 +1,4 @@
+-- V, read.
 use borrow.Author.Needs.{needs}
 use Rattle.cells.proofs.version.Statement.{statement}
 use Rattle.cells.proofs.version.Tie as tie

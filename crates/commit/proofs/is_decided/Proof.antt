@@ -4,7 +4,8 @@ use native.Mathlib.Omega.{arith}
 use lib.IntN.{pos}
 use lib.ListN.{getD}
 use Rattle.model.specs.Status.{same}
-use Rattle.registers.proofs.Statuses.{bits-test, there}
+use Rattle.model.proofs.Arrays.{getD-any}
+use Rattle.registers.proofs.Statuses.{bits-test}
 use borrow.Author.Needs.{needs}
 use Rattle.commit.proofs.is_decided.Statement.{statement}
 use Rattle.commit.proofs.is_decided.Tie as tie
@@ -23,12 +24,12 @@ returns c none =
     let s = c .before .before .before .before in
     let l = s .args .stat .now in
     let w = s .args .w in
-    -- wid is the fifth field
-    let fits = c .struct-told .given .1 .1 .1 .1 .0 .1 in
+    -- wid is the second field
+    let fits = c .struct-told .given .1 .0 .1 in
     bits-test (getD l (w .hid) (pos 0)) (w .wid)
     (record { sfits = c .before .before .status .given })
     (record { sfits = fits })
-    ∙ ap (λ z. same z (w .wid)) (there l (w .hid) (pos 0) none (omega (arith, s .pre)))
+    ∙ ap (λ z. same z (w .wid)) (getD-any l (w .hid) (pos 0) none (omega (arith, s .pre)))
 
 pub is-decided-spec : {M : Type 1} → statement M
 is-decided-spec = tie.close (tie.spec cast-status mul-status element-copy-out-status returns)

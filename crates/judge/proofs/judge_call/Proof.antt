@@ -29,7 +29,8 @@ jobs-requires c κs = search needs
 
 returns : tie.Need-returns
 returns c m x is act =
-    rw (le-leb _ _ (rw (c .before .jobs .ensures) at (c .if1 .taken)))
+    let a = c .before .before .args in
+    rw (le-leb (sizesIn (now (a .plan)) .jobs) (a .job) (omega (arith, c .before .jobs .ensures, c .if1 .taken)))
 
 updates-requires : tie.Need-updates-requires
 updates-requires c κs = search needs
@@ -39,9 +40,9 @@ returns-2 c m x is act =
     let b = c .before .before in
     let a = b .before .before .args in
     rw (
-      lt-leb _ _ (rw (b .before .jobs .ensures) at (b .if1 .left)),
+      lt-leb (sizesIn (now (a .plan)) .jobs) (a .job) (omega (arith, b .before .jobs .ensures, b .if1 .left)),
       updates-in (now (a .plan)),
-      le-leb (updatesIn (now (a .plan))) (a .update) (rw (c .before .updates .ensures) at (c .if2 .taken)),
+      le-leb (updatesIn (now (a .plan))) (a .update) (omega (arith, c .before .updates .ensures, c .if2 .taken)),
     )
 
 is-active-requires : tie.Need-is-active-requires
@@ -52,8 +53,9 @@ returns-3 c m x is act =
     let b = c .before .before in
     let a = b .before .before in
     let g = a .before .before .args in
-    let has : g .job < sizesIn (now (g .plan)) .jobs = rw (a .before .jobs .ensures) at (a .if1 .left) in
-    known (now (g .plan)) m (g .job) (g .update) true has (rw (b .before .updates .ensures) at (b .if2 .left))
+    let has : g .job < sizesIn (now (g .plan)) .jobs = omega (arith, a .before .jobs .ensures, a .if1 .left) in
+    let some : g .update < updatesIn (now (g .plan)) = omega (arith, b .before .updates .ensures, b .if2 .left) in
+    known (now (g .plan)) m (g .job) (g .update) true has some
     (sym (act (g .job) (omega arith)) ∙ rw is (sym (c .before .is-active .ensures 0) ∙ c .if3 .taken))
 
 returns-4 : tie.Need-returns-4
@@ -61,8 +63,9 @@ returns-4 c m x is act =
     let b = c .before .before in
     let a = b .before .before in
     let g = a .before .before .args in
-    let has : g .job < sizesIn (now (g .plan)) .jobs = rw (a .before .jobs .ensures) at (a .if1 .left) in
-    known (now (g .plan)) m (g .job) (g .update) false has (rw (b .before .updates .ensures) at (b .if2 .left))
+    let has : g .job < sizesIn (now (g .plan)) .jobs = omega (arith, a .before .jobs .ensures, a .if1 .left) in
+    let some : g .update < updatesIn (now (g .plan)) = omega (arith, b .before .updates .ensures, b .if2 .left) in
+    known (now (g .plan)) m (g .job) (g .update) false has some
     (sym (act (g .job) (omega arith)) ∙ rw is (sym (c .before .is-active .ensures 0) ∙ c .if3 .left))
 
 pub judge-call-spec : {M : Type 1} → statement M

@@ -17,7 +17,7 @@ returns : tie.Need-returns
 returns c m x is t =
     let a = c .before .before .args in
     rw
-    (le-leb (sizesIn (now (a .plan)) .cards) (a .card) (rw (c .before .cards .ensures) at (c .if1 .taken)))
+    (le-leb (sizesIn (now (a .plan)) .cards) (a .card) (omega (arith, c .before .cards .ensures, c .if1 .taken)))
 
 running-requires : tie.Need-running-requires
 running-requires c κs = search needs

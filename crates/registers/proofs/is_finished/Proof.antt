@@ -1,10 +1,12 @@
+-- Stat[k] = N.
 use mathlib.Core.Path.{_∙_, ap}
 use native.Mathlib.Omega.{arith}
 use lib.IntN.{pos}
 use lib.ListN.{getD}
 use Rattle.layout.specs.PlanTable.{sizesIn}
 use Rattle.model.specs.Status.{same}
-use Rattle.registers.proofs.Statuses.{bits-test, there}
+use Rattle.model.proofs.Arrays.{getD-any}
+use Rattle.registers.proofs.Statuses.{bits-test}
 use borrow.Author.Needs.{needs}
 use Rattle.registers.proofs.is_finished.Statement.{statement}
 use Rattle.registers.proofs.is_finished.Tie as tie
@@ -37,7 +39,7 @@ returns c none =
     (bits-test (getD (a .stat .now) (a .k) (pos 0)) (pos (sizesIn (a .plan .now) .jobs))
     (record { sfits = c .before .status .given }) (record { sfits = omega (arith, s .pre) })
     ∙ ap (λ x. same x (pos (sizesIn (a .plan .now) .jobs)))
-    (there (a .stat .now) (a .k) (pos 0) none (omega (arith, s .pre))))
+    (getD-any (a .stat .now) (a .k) (pos 0) none (omega (arith, s .pre))))
 
 pub is-finished-spec : {M : Type 1} → statement M
 is-finished-spec =

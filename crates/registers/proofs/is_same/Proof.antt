@@ -1,3 +1,4 @@
+-- Two versions are the same.
 use borrow.Author.Tests.{eq-eqb, ne-eqb}
 use Rattle.model.specs.Steps.{sameVersion}
 use Rattle.registers.proofs.is_same.Statement.{statement}

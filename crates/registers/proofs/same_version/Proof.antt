@@ -1,3 +1,4 @@
+-- V = ver.
 use borrow.Author.Needs.{needs}
 use Rattle.registers.proofs.same_version.Statement.{statement}
 use Rattle.registers.proofs.same_version.Tie as tie

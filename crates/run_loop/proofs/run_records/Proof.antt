@@ -78,7 +78,7 @@ use Rattle.walks.proofs.Lent.{repeat-is}
 use Rattle.walks.proofs.Spots.{sink}
 use Rattle.walks.proofs.Muts as muts
 use Rattle.where_kept.proofs.Handed.{Words, PlanWords, PlanT, Cells, Stat, Rows, Commits, seven, Seven, inTables}
-use Rattle.where_kept.proofs.Handed.{registersVal}
+use Rattle.where_kept.proofs.Handed.{registersVal, registers-typed, ruling-typed}
 use Rattle.where_kept.proofs.Handed as hand
 use Rattle.run_loop.specs.Reached.{Starts}
 use Rattle.run_loop.proofs.Turns as law
@@ -131,6 +131,10 @@ made-is r v ir e = repeat-is K.the-row 16 idle v (subst (λ (w : Registers). Is 
 abbrev worksT : Ty
 worksT = tyArray K′.mir 16
 
+-- How many bytes a job's registers take.
+abbrev bytes : ℕ
+bytes = 32
+
 module _ {M : Type 1} (𝓤 : URA M) (H : Heap 𝓤) (A : Atoms 𝓤) (W : Given 𝓤 H A) where
   -- A machine value of it makes what is owned of it.
   works-make : Makes 𝓤 H A Works (Is Works)
@@ -139,12 +143,6 @@ module _ {M : Type 1} (𝓤 : URA M) (H : Heap 𝓤) (A : Atoms 𝓤) (W : Given
   -- The machine values are of their types.
   works-typed : (ws : List Registers) (v : Val) → Is Works ws (v ∷ []) → T (hasTy worksT v) × WT v
   works-typed ws v is = array-lawful 𝓤 H A W K.the-row (LL.lawful K.the-type K′.the-laws 𝓤 H A W) 16 .typed ws _ is .0
-
-  registers-typed : (h : Registers) (v : Val) → Is K.the-row h (v ∷ []) → T (hasTy K′.mir v) × WT v
-  registers-typed h v g = LL.lawful K.the-type K′.the-laws 𝓤 H A W .typed h _ g .0
-
-  ruling-typed : (j : Ruling) (v : Val) → Is R.the-row j (v ∷ []) → T (hasTy R′.mir v) × WT v
-  ruling-typed j v is = LL.lawful R.the-type R′.the-laws 𝓤 H A W .typed j _ is .0
 
 -- Machine values.
 abbrev entryVal : Entry → Val
@@ -598,7 +596,7 @@ module _ {M : Type 1} (𝓤 : URA M) (H : Heap 𝓤) (A : Atoms 𝓤) (W : Given
         assigns ! (bin ! (var ! 42 refl) (lit ! tt) (record { fits = omega (arith, k-few) })) (from ! (stop
         !)) (store ! 36 refl (tt, record { fits = omega (arith, k-few) })) $ sets ! (addr ! (from ! (stop !)))
         26 refl (tt, tt) $ sets ! (bin ! (var ! 26 refl) (var ! 36 refl) tt) 24 refl (tt, tt) $ rewrite ! 24
-        (λ (a : ℕ). ‵ (fat fullShare tyPtr l₂₄ 0 (vptr l₁₂ a))) (sym (place-is 36 0 k)) refl $ sets ! (behind
+        (λ (a : ℕ). ‵ (fat fullShare tyPtr l₂₄ 0 (vptr l₁₂ a))) (sym (place-is bytes 0 k)) refl $ sets ! (behind
         ! 24 refl) 22 refl (tt, tt) $ sets ! (behind ! 64 refl) 20 refl (tt, tt) $ sets ! (behind ! 62 refl)
         18 refl (tt, tt) $ sets ! (addr ! (from ! (fld ! refl (hop ! (look-in ! 60 (sub ! 0 refl (whole !)))
         (stop !))))) 16 refl (tt, tt) $ sets ! (agg ! (arg ! 16 refl (and-then ! (load ! (from ! (fld ! refl
@@ -622,11 +620,11 @@ module _ {M : Type 1} (𝓤 : URA M) (H : Heap 𝓤) (A : Atoms 𝓤) (W : Given
         (worksVal (j .ws)) l₁₂ 0) $ use1 W (‵ (arr-parts (shares K.the-row) 16 .part fullShare (j .ws) l₁₂ 0))
         (array-apart 𝓤 H A W K.the-row fullShare tt 16 (j .ws) l₁₂ 0) $ fsplit ! $ feqL ! (λ len. let there :
         k < length (j .ws) = subst (λ (a : ℕ). k < a) (sym len) k-few in use1 W (‵ (partAt K.the-row fullShare
-        h l₁₂ (place 36 0 k)) ⊛ ‵ (others (shares K.the-row) fullShare (j .ws) k l₁₂ 0)) (takes (shares
+        h l₁₂ (place bytes 0 k)) ⊛ ‵ (others (shares K.the-row) fullShare (j .ws) k l₁₂ 0)) (takes (shares
         K.the-row) fullShare 𝓤 H A W (j .ws) k idle l₁₂ 0 there) $ split ! $ lft-new ! tt (λ β. move ! (1 ∷
-        []) $ use1 W (later (some (λ (δ : GName). ‵ (Lent l₁₂ (place 36 0 k) (β ∷ []) δ h) ⊛ ‵ (flent (β ∷ [])
-        (Holds (mem K.the-row) l₁₂ (place 36 0 k) δ))))) (lends-ref 𝓤 H A W K.the-row (named 0) (β ∷ []) h l₁₂
-        (place 36 0 k)) $ await ! tt $ pick ! (λ δ. split ! $
+        []) $ use1 W (later (some (λ (δ : GName). ‵ (Lent l₁₂ (place bytes 0 k) (β ∷ []) δ h) ⊛ ‵ (flent (β ∷ [])
+        (Holds (mem K.the-row) l₁₂ (place bytes 0 k) δ))))) (lends-ref 𝓤 H A W K.the-row (named 0) (β ∷ []) h l₁₂
+        (place bytes 0 k)) $ await ! tt $ pick ! (λ δ. split ! $
         -- the seven are lent again, and the plan is copied
         lft-new ! tt (λ ν. move ! (9 ∷ 10 ∷ []) $ use2 W (later (some (λ (ds : muts.Names seven). ‵ (muts.own
         (named 2) (ν ∷ []) seven (muts.renamed seven (muts.moved seven f (j .z)) ds)) ⊛ ‵ (muts.Kept κ₂ (ν ∷
@@ -634,10 +632,10 @@ module _ {M : Type 1} (𝓤 : URA M) (H : Heap 𝓤) (A : Atoms 𝓤) (W : Given
         seven (muts.moved seven f (j .z))) $ await ! tt $ pick ! (λ ds. split ! $ move ! (9 ∷ []) $ use1 W (‵
         Pl ⊛ ‵ Pl) plan-twice $ split ! $
         -- the call
-        move ! (7 ∷ 11 ∷ 4 ∷ 5 ∷ 1 ∷ 2 ∷ []) $ cut (ToPut l₁₂ (place 36 0 k) (β ∷ []) (ν ∷ []) δ ds h rule v
-        (j .z)) (raw (Put 𝓤 H A at-mem run .pre (to-put l₁₂ (place 36 0 k) (β ∷ []) (ν ∷ []) δ ds h rule v (j
-        .z))) ∷ []) _ (goes-put l₁₂ (place 36 0 k) (β ∷ []) (ν ∷ []) δ ds h rule v (j .z) ij asked) $ calls-at
-        ! fm (Put 𝓤 H A at-mem run) knows-put (to-put l₁₂ (place 36 0 k) (β ∷ []) (ν ∷ []) δ ds h rule v (j
+        move ! (7 ∷ 11 ∷ 4 ∷ 5 ∷ 1 ∷ 2 ∷ []) $ cut (ToPut l₁₂ (place bytes 0 k) (β ∷ []) (ν ∷ []) δ ds h rule v
+        (j .z)) (raw (Put 𝓤 H A at-mem run .pre (to-put l₁₂ (place bytes 0 k) (β ∷ []) (ν ∷ []) δ ds h rule v (j
+        .z))) ∷ []) _ (goes-put l₁₂ (place bytes 0 k) (β ∷ []) (ν ∷ []) δ ds h rule v (j .z) ij asked) $ calls-at
+        ! fm (Put 𝓤 H A at-mem run) knows-put (to-put l₁₂ (place bytes 0 k) (β ∷ []) (ν ∷ []) δ ds h rule v (j
         .z)) (arg ! 23 refl (arg ! 66 refl (arg ! 45 refl (arg ! 21 refl (arg ! 19 refl (arg ! 15 refl (arg !
         13 refl (arg ! 11 refl (arg ! 9 refl (arg ! 7 refl (no-more !))))))))))) (λ u. use1 W (later (some (λ
         (un : Unit {0}). ((‵ (flft (β ∷ []) fullShare) ⊛ (‵ (flft κ₁ q₁) ⊛ (‵ (flft (ν ∷ []) fullShare) ⊛ ‵
@@ -645,14 +643,14 @@ module _ {M : Type 1} (𝓤 : URA M) (H : Heap 𝓤) (A : Atoms 𝓤) (W : Given
           β
               ∷ [],
           (κ₁, (ν ∷ [], tt)),
-        ) (put-args l₁₂ (place 36 0 k) δ ds h rule (j .z)) tt un)))) (id⊢ 𝓤 _) $ await
+        ) (put-args l₁₂ (place bytes 0 k) δ ds h rule (j .z)) tt un)))) (id⊢ 𝓤 _) $ await
         ! tt $ pick ! (λ un. split ! $ move ! (1 ∷ []) $ use1 W (some (λ (zs : Lasts put.ended (
           β ∷ [],
           (
             κ₁,
             (ν ∷ [], tt),
           ),
-        ) (put-args l₁₂ (place 36 0 k) δ ds h rule (j .z))). ‵ (lasts put.ended (
+        ) (put-args l₁₂ (place bytes 0 k) δ ds h rule (j .z))). ‵ (lasts put.ended (
           β ∷ [],
           (
             κ₁,
@@ -662,7 +660,7 @@ module _ {M : Type 1} (𝓤 : URA M) (H : Heap 𝓤) (A : Atoms 𝓤) (W : Given
               tt,
             ),
           ),
-        ) (put-args l₁₂ (place 36 0 k) δ ds h rule (j .z)) zs) ⊛ raw (fact 𝓤 (Gave rule h (j .z) (zs
+        ) (put-args l₁₂ (place bytes 0 k) δ ds h rule (j .z)) zs) ⊛ raw (fact 𝓤 (Gave rule h (j .z) (zs
         .0) (zs .1 .1 .1))))) (id⊢ 𝓤 _) $ pick ! (λ zs. split ! $ move ! (1 ∷ []) $ heard ! (Gave rule h (j
         .z) (zs .0) (zs .1 .1 .1)) (λ gave. let w′ = zs .0 in let z′ = zs .1 .1 .1 in fsplit ! $ move ! (1 ∷
         []) $ fsplit ! $ drop ! $ fsplit ! $ drop ! $ move ! (2 ∷ []) $ split ! $ move ! (1 ∷ []) $ peeks !
@@ -671,7 +669,7 @@ module _ {M : Type 1} (𝓤 : URA M) (H : Heap 𝓤) (A : Atoms 𝓤) (W : Given
         ∷ []) $ split ! $ move ! (1 ∷ []) $ drop ! $
         -- the registers come back, and are put among the others
         move ! (2 ∷ []) $ lft-end ! tt $ move ! (0 ∷ 7 ∷ 4 ∷ []) $ use3 W (later (‵ (partAt K.the-row
-        fullShare w′ l₁₂ (place 36 0 k)))) (ref-back 𝓤 H A W K.the-row (β ∷ []) δ w′ l₁₂ (place 36 0 k)) $
+        fullShare w′ l₁₂ (place bytes 0 k)))) (ref-back 𝓤 H A W K.the-row (β ∷ []) δ w′ l₁₂ (place bytes 0 k)) $
         await ! tt $ move ! (0 ∷ 6 ∷ []) $ use2 W (‵ (row K.the-row fullShare (set (j .ws) k w′) l₁₂ 0)) (puts
         (shares K.the-row) fullShare 𝓤 H A W (j .ws) k w′ l₁₂ 0 there) $ feqI ! ℕ (length (set (j .ws) k w′))
         16 (length-set (j .ws) k w′ ∙ len) $ fjoin ! $ use1 W (‵ (partAt Works fullShare (set (j .ws) k w′)

@@ -6,9 +6,9 @@ use native.Mathlib.Omega.{arith}
 use lib.ListN.{length, drop, length-drop, length-set}
 use lib.Seq.{paste, paste-zero, paste-suc, getD-drop}
 use denote.Ref.{now}
-use Rattle.carrying.proofs.Words.{still}
-use Rattle.carrying.proofs.copy_words.Statement.{statement}
-use Rattle.carrying.proofs.copy_words.Tie as tie
+use Rattle.changes.proofs.Words.{still}
+use Rattle.changes.proofs.copy_words.Statement.{statement}
+use Rattle.changes.proofs.copy_words.Tie as tie
 
 abbrev Inv-loop : tie.InvT-loop
 Inv-loop store₀ words from to i₀ store i =

@@ -1,12 +1,12 @@
 -- `decide` reclaims and then clears. Assumes nothing.
 use Rattle.cells.proofs.Views.{own-then}
 use borrow.Author.Needs.{needs}
-use Rattle.carrying.proofs.decide.Statement.{statement}
-use Rattle.carrying.proofs.decide.Tie as tie
-use Rattle.carrying.proofs.decide.Reads as reads
-use Rattle.carrying.proofs.decide.Lts as lts
-use Rattle.carrying.proofs.clear.Reads as clear-reads
-use Rattle.carrying.proofs.reclaim.Reads as reclaim-reads
+use Rattle.changes.proofs.decide.Statement.{statement}
+use Rattle.changes.proofs.decide.Tie as tie
+use Rattle.changes.proofs.decide.Reads as reads
+use Rattle.changes.proofs.decide.Lts as lts
+use Rattle.changes.proofs.clear.Reads as clear-reads
+use Rattle.changes.proofs.reclaim.Reads as reclaim-reads
 
 reclaim-requires : tie.Need-reclaim-requires
 reclaim-requires c κs = search needs

@@ -2,10 +2,10 @@
 use native.Mathlib.Omega.{arith}
 use Rattle.cells.proofs.Views.{marks}
 use borrow.Author.Needs.{needs}
-use Rattle.carrying.proofs.mark.Statement.{statement}
-use Rattle.carrying.proofs.mark.Tie as tie
-use Rattle.carrying.proofs.mark.Reads as reads
-use Rattle.carrying.proofs.mark.Lts as lts
+use Rattle.changes.proofs.mark.Statement.{statement}
+use Rattle.changes.proofs.mark.Tie as tie
+use Rattle.changes.proofs.mark.Reads as reads
+use Rattle.changes.proofs.mark.Lts as lts
 use Rattle.cells.proofs.put_curr.Reads as put-curr-reads
 use Rattle.cells.proofs.put_dirty.Reads as put-dirty-reads
 

@@ -1,9 +1,9 @@
 -- `add_commit` meets its contract. Assumes nothing.
 use borrow.Author.Needs.{needs}
-use Rattle.carrying.proofs.add_commit.Statement.{statement}
-use Rattle.carrying.proofs.add_commit.Tie as tie
-use Rattle.carrying.proofs.add_commit.Reads as reads
-use Rattle.carrying.proofs.add_commit.Lts as lts
+use Rattle.changes.proofs.add_commit.Statement.{statement}
+use Rattle.changes.proofs.add_commit.Tie as tie
+use Rattle.changes.proofs.add_commit.Reads as reads
+use Rattle.changes.proofs.add_commit.Lts as lts
 use Rattle.cells.proofs.committed.Reads as committed-reads
 use Rattle.cells.proofs.entries.Reads as entries-reads
 use Rattle.cells.proofs.put_committed.Reads as put-committed-reads

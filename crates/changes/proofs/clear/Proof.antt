@@ -2,11 +2,11 @@
 use Prim.Native.Nat.{_-_, _≤_}
 use mathlib.Core.Path.{_≡_}
 use native.Mathlib.Omega.{arith}
-use Rattle.carrying.proofs.Clearing.{Clears, clear-none, clear-more, clear-all}
-use Rattle.carrying.proofs.clear.Statement.{statement}
-use Rattle.carrying.proofs.clear.Tie as tie
-use Rattle.carrying.proofs.clear.Reads as reads
-use Rattle.carrying.proofs.clear.Lts as lts
+use Rattle.changes.proofs.Clearing.{Clears, clear-none, clear-more, clear-all}
+use Rattle.changes.proofs.clear.Statement.{statement}
+use Rattle.changes.proofs.clear.Tie as tie
+use Rattle.changes.proofs.clear.Reads as reads
+use Rattle.changes.proofs.clear.Lts as lts
 use Rattle.cells.proofs.put_dirty.Reads as put-dirty-reads
 
 abbrev Inv-loop : tie.InvT-loop

@@ -7,12 +7,12 @@ use native.Mathlib.Omega.{arith}
 use lib.ListN.{length, getD, length-append}
 use Rattle.model.specs.Steps.{replaced}
 use Rattle.cells.specs.CellTable.{places, dirtyAt}
-use Rattle.carrying.proofs.FirstPlaces.{replaced-written, replaced-unwritten, has-place}
-use Rattle.carrying.proofs.Reclaiming.{Puts, puts-none, puts-more, puts-marks, puts-all}
-use Rattle.carrying.proofs.reclaim.Statement.{statement}
-use Rattle.carrying.proofs.reclaim.Tie as tie
-use Rattle.carrying.proofs.reclaim.Reads as reads
-use Rattle.carrying.proofs.reclaim.Lts as lts
+use Rattle.changes.proofs.FirstPlaces.{replaced-written, replaced-unwritten, has-place}
+use Rattle.changes.proofs.Reclaiming.{Puts, puts-none, puts-more, puts-marks, puts-all}
+use Rattle.changes.proofs.reclaim.Statement.{statement}
+use Rattle.changes.proofs.reclaim.Tie as tie
+use Rattle.changes.proofs.reclaim.Reads as reads
+use Rattle.changes.proofs.reclaim.Lts as lts
 use Rattle.cells.proofs.dirty.Reads as dirty-reads
 use Rattle.cells.proofs.put_copy.Reads as put-copy-reads
 

@@ -1,9 +1,9 @@
 -- `announce_update` meets its contract. Assumes nothing.
 use borrow.Author.Needs.{needs}
-use Rattle.carrying.proofs.announce_update.Statement.{statement}
-use Rattle.carrying.proofs.announce_update.Tie as tie
-use Rattle.carrying.proofs.announce_update.Reads as reads
-use Rattle.carrying.proofs.announce_update.Lts as lts
+use Rattle.changes.proofs.announce_update.Statement.{statement}
+use Rattle.changes.proofs.announce_update.Tie as tie
+use Rattle.changes.proofs.announce_update.Reads as reads
+use Rattle.changes.proofs.announce_update.Lts as lts
 use Rattle.cells.proofs.put_trans.Reads as put-trans-reads
 use Rattle.cells.proofs.update.Reads as update-reads
 

@@ -8,11 +8,11 @@ use borrow.Author.Needs.{needs}
 use Rattle.format.specs.Plan.{table}
 use Rattle.model.specs.Steps.{inFirstPlaces}
 use Rattle.cells.specs.CellTable.{places, currAt}
-use Rattle.carrying.proofs.FirstPlaces.{one-more-of}
-use Rattle.carrying.proofs.published.Statement.{statement}
-use Rattle.carrying.proofs.published.Tie as tie
-use Rattle.carrying.proofs.published.Reads as reads
-use Rattle.carrying.proofs.published.Lts as lts
+use Rattle.changes.proofs.FirstPlaces.{one-more-of}
+use Rattle.changes.proofs.published.Statement.{statement}
+use Rattle.changes.proofs.published.Tie as tie
+use Rattle.changes.proofs.published.Reads as reads
+use Rattle.changes.proofs.published.Lts as lts
 use Rattle.cells.proofs.curr.Reads as curr-reads
 
 abbrev Inv-loop : tie.InvT-loop

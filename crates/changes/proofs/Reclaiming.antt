@@ -9,7 +9,7 @@ use Rattle.model.specs.Steps.{replaced, inFirstPlaces}
 use Rattle.cells.specs.CellTable.{places, Only, cellPlaces, ownAt, currAt, copyAt, updateAt}
 use Rattle.cells.specs.Effects.{OwnStep, reclaiming}
 use Rattle.cells.proofs.Places.{places-in, places-length, places-out, only-set, only-then, only-none, only-wider}
-use Rattle.carrying.proofs.FirstPlaces.{one-more}
+use Rattle.changes.proofs.FirstPlaces.{one-more}
 
 -- These numbers stand in the first places of job p's copy list.
 pub record Puts (p : ℕ) (ns : List ℕ) (t u : List ℕ) : Type 0 where

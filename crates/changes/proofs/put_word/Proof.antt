@@ -1,11 +1,11 @@
 -- `put_word` stays inside the store. Assumes nothing.
 use native.Mathlib.Omega.{arith}
-use Rattle.carrying.proofs.Words.{word-inside}
+use Rattle.changes.proofs.Words.{word-inside}
 use borrow.Author.Needs.{needs}
-use Rattle.carrying.proofs.put_word.Statement.{statement}
-use Rattle.carrying.proofs.put_word.Tie as tie
-use Rattle.carrying.proofs.put_word.Reads as reads
-use Rattle.carrying.proofs.put_word.Lts as lts
+use Rattle.changes.proofs.put_word.Statement.{statement}
+use Rattle.changes.proofs.put_word.Tie as tie
+use Rattle.changes.proofs.put_word.Reads as reads
+use Rattle.changes.proofs.put_word.Lts as lts
 
 mul-at : tie.Need-mul-at
 mul-at c =
