@@ -157,7 +157,8 @@ module _ {t : List ℕ} {ws : List Registers} {x : Tables} (k : Kept t ws x) whe
         (k .ranges .reclaims p few)
         at-h25
         (rw
-        (getD-any (x .stat) (w .hid) (pos (sizesIn t .jobs)) (pos 0) (omega (arith, k .whole .stat, registers-fit .hid)))
+        (getD-any (x .stat) (w .hid) (pos (sizesIn t .jobs)) (pos 0)
+        (omega (arith, k .whole .stat, registers-fit .hid)))
         decides)
 
     -- What the place says of the record, as the item at the place asks for it.

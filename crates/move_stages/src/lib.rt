@@ -51,29 +51,6 @@ fn list(plan: &[u32; PLAN_PLACES], cells: &[u32; CELL_PLACES], p: usize, w: Regi
     registers::quiet(registers::go_to(w, Place::Move(after)))
 }
 
-// On the block's first write copy it into p's next copy block (else nothing).
-fn copy(plan: &[u32; PLAN_PLACES], cells: &[u32; CELL_PLACES], p: usize, w: Registers) -> Effect
-    requires { ⌜ PlanFits (now plan) p × (CellsFit (now cells) p × (RegistersFit w × InMove (now plan) w)) ⌝ }
-    requires { ⌜ RoomToCopy (now plan) (now cells) p w ⌝ }
-    ensures { λ r. ⌜ ((x : Tables) → x .cells ≡ now (cells .entry)
-        → Does (Place.Move Stage.Copy) (now (plan .entry)) x p w r) ⌝ }
-    ensures { λ r. ⌜ Fits r ⌝ }
-{
-    let m = accesses::move_for(plan, w);
-    let block = accesses::word_of(m, w.access) / layout::words(plan);
-    if cells::dirty(cells, p, block) == 2 {
-        return registers::quiet(registers::go_to(w, Place::Move(Stage::Write)));
-    }
-    let from = cells::curr(cells, p, block);
-    let to = cells::copy(cells, p, w.dirtycnt as u32);
-    let mut next = w;
-    next.dirtycnt = w.dirtycnt + 1;
-    registers::storing(
-        Change::Block(block, from, to),
-        registers::go_to(next, Place::Move(Stage::Write)),
-    )
-}
-
 // Take the word, from the block's copy once this run has made one.
 fn take(
     plan: &[u32; PLAN_PLACES],
@@ -96,6 +73,29 @@ fn take(
     let mut next = w;
     next.word = store[at];
     registers::quiet(accesses::onward(plan, m, next))
+}
+
+// On the block's first write copy it into p's next copy block (else nothing).
+fn copy(plan: &[u32; PLAN_PLACES], cells: &[u32; CELL_PLACES], p: usize, w: Registers) -> Effect
+    requires { ⌜ PlanFits (now plan) p × (CellsFit (now cells) p × (RegistersFit w × InMove (now plan) w)) ⌝ }
+    requires { ⌜ RoomToCopy (now plan) (now cells) p w ⌝ }
+    ensures { λ r. ⌜ ((x : Tables) → x .cells ≡ now (cells .entry)
+        → Does (Place.Move Stage.Copy) (now (plan .entry)) x p w r) ⌝ }
+    ensures { λ r. ⌜ Fits r ⌝ }
+{
+    let m = accesses::move_for(plan, w);
+    let block = accesses::word_of(m, w.access) / layout::words(plan);
+    if cells::dirty(cells, p, block) == 2 {
+        return registers::quiet(registers::go_to(w, Place::Move(Stage::Write)));
+    }
+    let from = cells::curr(cells, p, block);
+    let to = cells::copy(cells, p, w.dirtycnt as u32);
+    let mut next = w;
+    next.dirtycnt = w.dirtycnt + 1;
+    registers::storing(
+        Change::Block(block, from, to),
+        registers::go_to(next, Place::Move(Stage::Write)),
+    )
 }
 
 // Write the word in that copy.

@@ -30,25 +30,6 @@ use Rattle.carrying.proofs.Carrying.{
 use borrow.Author.Needs.{needs}
 use Rattle.carrying.proofs.carry_out.Statement.{statement}
 use Rattle.carrying.proofs.carry_out.Tie as tie
-use Rattle.carrying.proofs.carry_out.Reads as reads
-use Rattle.carrying.proofs.carry_out.Lts as lts
-use Rattle.changes.proofs.add_commit.Reads as add-commit-reads
-use Rattle.changes.proofs.announce_update.Reads as announce-update-reads
-use Rattle.changes.proofs.clear.Reads as clear-reads
-use Rattle.changes.proofs.copy_words.Reads as copy-words-reads
-use Rattle.changes.proofs.decide.Reads as decide-reads
-use Rattle.changes.proofs.mark.Reads as mark-reads
-use Rattle.changes.proofs.published.Reads as published-reads
-use Rattle.changes.proofs.put_in_row.Reads as put-in-row-reads
-use Rattle.changes.proofs.put_status.Reads as put-status-reads
-use Rattle.changes.proofs.put_word.Reads as put-word-reads
-use Rattle.cells.proofs.put_ann.Reads as put-ann-reads
-use Rattle.cells.proofs.put_bank.Reads as put-bank-reads
-use Rattle.cells.proofs.put_numblks.Reads as put-numblks-reads
-use Rattle.cells.proofs.put_version.Reads as put-version-reads
-use Rattle.layout.proofs.jobs.Reads as jobs-reads
-use Rattle.layout.proofs.words.Reads as words-reads
-use Rattle.turning.proofs.turn.Reads as turn-reads
 
 enum-told : tie.Need-enum-told
 enum-told c = search needs

@@ -4,19 +4,13 @@ use Rattle.cells.proofs.Places.{places-at}
 use borrow.Author.Needs.{needs}
 use Rattle.cells.proofs.number_at.Statement.{statement}
 use Rattle.cells.proofs.number_at.Tie as tie
-use Rattle.cells.proofs.number_at.Reads as reads
-use Rattle.cells.proofs.number_at.Lts as lts
-use Rattle.cells.proofs.get.Reads as get-reads
 
--- src/lib.rt:135:16
 add-get : tie.Need-add-get
 add-get c = search needs
 
--- src/lib.rt:135:5
 get-requires : tie.Need-get-requires
 get-requires c κs = search needs
 
--- src/lib.rt:131:1
 returns : tie.Need-returns
 returns c none =
     c .get .ensures

@@ -2,19 +2,13 @@
 use borrow.Author.Needs.{needs}
 use Rattle.cells.proofs.put_version_bits.Statement.{statement}
 use Rattle.cells.proofs.put_version_bits.Tie as tie
-use Rattle.cells.proofs.put_version_bits.Reads as reads
-use Rattle.cells.proofs.put_version_bits.Lts as lts
-use Rattle.cells.proofs.put.Reads as put-reads
 
--- src/lib.rt:278:5
 put-requires : tie.Need-put-requires
 put-requires c κs = search needs
 
--- src/lib.rt:279:5
 put-requires-2 : tie.Need-put-requires-2
 put-requires-2 c κs = search needs
 
--- src/lib.rt:275:1
 returns : tie.Need-returns
 returns c = rw (c .put2 .ensures, c .before .before .put .ensures)
 

@@ -2,12 +2,6 @@
 use borrow.Author.Needs.{needs}
 use Rattle.changes.proofs.add_commit.Statement.{statement}
 use Rattle.changes.proofs.add_commit.Tie as tie
-use Rattle.changes.proofs.add_commit.Reads as reads
-use Rattle.changes.proofs.add_commit.Lts as lts
-use Rattle.cells.proofs.committed.Reads as committed-reads
-use Rattle.cells.proofs.entries.Reads as entries-reads
-use Rattle.cells.proofs.put_committed.Reads as put-committed-reads
-use Rattle.cells.proofs.update.Reads as update-reads
 
 committed-requires : tie.Need-committed-requires
 committed-requires c κs = search needs

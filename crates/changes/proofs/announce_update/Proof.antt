@@ -2,10 +2,6 @@
 use borrow.Author.Needs.{needs}
 use Rattle.changes.proofs.announce_update.Statement.{statement}
 use Rattle.changes.proofs.announce_update.Tie as tie
-use Rattle.changes.proofs.announce_update.Reads as reads
-use Rattle.changes.proofs.announce_update.Lts as lts
-use Rattle.cells.proofs.put_trans.Reads as put-trans-reads
-use Rattle.cells.proofs.update.Reads as update-reads
 
 update-requires : tie.Need-update-requires
 update-requires c κs = search needs

@@ -5,9 +5,6 @@ use native.Mathlib.Omega.{arith}
 use Rattle.changes.proofs.Clearing.{Clears, clear-none, clear-more, clear-all}
 use Rattle.changes.proofs.clear.Statement.{statement}
 use Rattle.changes.proofs.clear.Tie as tie
-use Rattle.changes.proofs.clear.Reads as reads
-use Rattle.changes.proofs.clear.Lts as lts
-use Rattle.cells.proofs.put_dirty.Reads as put-dirty-reads
 
 abbrev Inv-loop : tie.InvT-loop
 Inv-loop cells₀ p b₀ cells b = (b ≤ 16) × Clears p b cells₀ cells

@@ -3,10 +3,6 @@ use Rattle.cells.proofs.Views.{own-then}
 use borrow.Author.Needs.{needs}
 use Rattle.changes.proofs.decide.Statement.{statement}
 use Rattle.changes.proofs.decide.Tie as tie
-use Rattle.changes.proofs.decide.Reads as reads
-use Rattle.changes.proofs.decide.Lts as lts
-use Rattle.changes.proofs.clear.Reads as clear-reads
-use Rattle.changes.proofs.reclaim.Reads as reclaim-reads
 
 reclaim-requires : tie.Need-reclaim-requires
 reclaim-requires c κs = search needs

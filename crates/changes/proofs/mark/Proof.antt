@@ -4,10 +4,6 @@ use Rattle.cells.proofs.Views.{marks}
 use borrow.Author.Needs.{needs}
 use Rattle.changes.proofs.mark.Statement.{statement}
 use Rattle.changes.proofs.mark.Tie as tie
-use Rattle.changes.proofs.mark.Reads as reads
-use Rattle.changes.proofs.mark.Lts as lts
-use Rattle.cells.proofs.put_curr.Reads as put-curr-reads
-use Rattle.cells.proofs.put_dirty.Reads as put-dirty-reads
 
 put-dirty-requires : tie.Need-put-dirty-requires
 put-dirty-requires c κs = search needs

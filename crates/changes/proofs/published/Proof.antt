@@ -11,9 +11,6 @@ use Rattle.cells.specs.CellTable.{places, currAt}
 use Rattle.changes.proofs.FirstPlaces.{one-more-of}
 use Rattle.changes.proofs.published.Statement.{statement}
 use Rattle.changes.proofs.published.Tie as tie
-use Rattle.changes.proofs.published.Reads as reads
-use Rattle.changes.proofs.published.Lts as lts
-use Rattle.cells.proofs.curr.Reads as curr-reads
 
 abbrev Inv-loop : tie.InvT-loop
 Inv-loop cells p n addr out₀ i₀ out i =

@@ -4,8 +4,6 @@ use Rattle.changes.proofs.Words.{word-inside}
 use borrow.Author.Needs.{needs}
 use Rattle.changes.proofs.put_word.Statement.{statement}
 use Rattle.changes.proofs.put_word.Tie as tie
-use Rattle.changes.proofs.put_word.Reads as reads
-use Rattle.changes.proofs.put_word.Lts as lts
 
 mul-at : tie.Need-mul-at
 mul-at c =

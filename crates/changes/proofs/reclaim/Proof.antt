@@ -11,10 +11,6 @@ use Rattle.changes.proofs.FirstPlaces.{replaced-written, replaced-unwri
 use Rattle.changes.proofs.Reclaiming.{Puts, puts-none, puts-more, puts-marks, puts-all}
 use Rattle.changes.proofs.reclaim.Statement.{statement}
 use Rattle.changes.proofs.reclaim.Tie as tie
-use Rattle.changes.proofs.reclaim.Reads as reads
-use Rattle.changes.proofs.reclaim.Lts as lts
-use Rattle.cells.proofs.dirty.Reads as dirty-reads
-use Rattle.cells.proofs.put_copy.Reads as put-copy-reads
 
 -- The numbers replaced by the first i listed blocks.
 abbrev sofar : List ℕ → List ℕ → List ℕ → ℕ → ℕ → List ℕ

@@ -10,27 +10,19 @@ use Rattle.registers.proofs.Statuses.{bits-test}
 use borrow.Author.Needs.{needs}
 use Rattle.registers.proofs.is_finished.Statement.{statement}
 use Rattle.registers.proofs.is_finished.Tie as tie
-use Rattle.registers.proofs.is_finished.Reads as reads
-use Rattle.registers.proofs.is_finished.Lts as lts
-use Rattle.layout.proofs.jobs.Reads as jobs-reads
 
--- src/lib.rt:50:18
 mul-status : tie.Need-mul-status
 mul-status c = search needs
 
--- src/lib.rt:50:18
 element-copy-out-status : tie.Need-element-copy-out-status
 element-copy-out-status c = search needs
 
--- src/lib.rt:51:9
 jobs-requires : tie.Need-jobs-requires
 jobs-requires c κs = search needs
 
--- src/lib.rt:52:15
 cast-result : tie.Need-cast-result
 cast-result c = search needs
 
--- src/lib.rt:45:1
 returns : tie.Need-returns
 returns c none =
     let s = c .before .before in

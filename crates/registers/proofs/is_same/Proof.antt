@@ -3,20 +3,15 @@ use borrow.Author.Tests.{eq-eqb, ne-eqb}
 use Rattle.model.specs.Steps.{sameVersion}
 use Rattle.registers.proofs.is_same.Statement.{statement}
 use Rattle.registers.proofs.is_same.Tie as tie
-use Rattle.registers.proofs.is_same.Reads as reads
-use Rattle.registers.proofs.is_same.Lts as lts
 
--- src/lib.rt:28:13
 returns : tie.Need-returns
 unfolding sameVersion
 returns c = rw (eq-eqb _ _ (c .before .if1 .taken), c .if2 .taken)
 
--- src/lib.rt:30:9
 returns-2 : tie.Need-returns-2
 unfolding sameVersion
 returns-2 c = rw (eq-eqb _ _ (c .before .before .if1 .taken), c .before .if2 .left)
 
--- src/lib.rt:23:1
 returns-3 : tie.Need-returns-3
 unfolding sameVersion
 returns-3 c = rw (ne-eqb _ _ (c .if1 .left))

@@ -10,18 +10,13 @@ use Rattle.registers.proofs.Statuses.{bits-test}
 use borrow.Author.Needs.{needs}
 use Rattle.registers.proofs.is_undecided.Statement.{statement}
 use Rattle.registers.proofs.is_undecided.Tie as tie
-use Rattle.registers.proofs.is_undecided.Reads as reads
-use Rattle.registers.proofs.is_undecided.Lts as lts
 
--- src/lib.rt:60:18
 mul-status : tie.Need-mul-status
 mul-status c = search needs
 
--- src/lib.rt:60:18
 element-copy-out-status : tie.Need-element-copy-out-status
 element-copy-out-status c = search needs
 
--- src/lib.rt:56:1
 returns : tie.Need-returns
 returns c none =
     let a = c .before .args in

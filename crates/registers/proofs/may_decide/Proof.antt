@@ -3,26 +3,18 @@ use mathlib.Core.Path.{sym, _∙_}
 use borrow.Author.Needs.{needs}
 use Rattle.registers.proofs.may_decide.Statement.{statement}
 use Rattle.registers.proofs.may_decide.Tie as tie
-use Rattle.registers.proofs.may_decide.Reads as reads
-use Rattle.registers.proofs.may_decide.Lts as lts
-use Rattle.registers.proofs.is_undecided.Reads as is-undecided-reads
-use Rattle.registers.proofs.same_version.Reads as same-version-reads
 
--- src/lib.rt:71:8
 same-version-requires : tie.Need-same-version-requires
 same-version-requires c κs = search needs
 
--- src/lib.rt:72:9
 is-undecided-requires : tie.Need-is-undecided-requires
 is-undecided-requires c κs = search needs
 
--- src/lib.rt:72:9
 returns : tie.Need-returns
 returns c none =
     let b = c .before .before in
     rw (sym (b .same-version .ensures) ∙ c .before .if1 .taken) (c .is-undecided .ensures none)
 
--- src/lib.rt:65:1
 returns-2 : tie.Need-returns-2
 returns-2 c none = rw (sym (c .before .same-version .ensures) ∙ c .if1 .left)
 

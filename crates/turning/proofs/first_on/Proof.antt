@@ -15,12 +15,6 @@ use Rattle.cells.specs.Book.{higherOf, firstOn}
 use Rattle.turning.proofs.Laws.{within}
 use Rattle.turning.proofs.first_on.Statement.{statement}
 use Rattle.turning.proofs.first_on.Tie as tie
-use Rattle.turning.proofs.first_on.Reads as reads
-use Rattle.turning.proofs.first_on.Lts as lts
-use Rattle.cells.proofs.is_active.Reads as is-active-reads
-use Rattle.layout.proofs.card.Reads as card-reads
-use Rattle.layout.proofs.jobs.Reads as jobs-reads
-use Rattle.turning.proofs.higher_of.Reads as higher-of-reads
 
 abbrev Inv-loop : tie.InvT-loop
 Inv-loop plan cells card jobs best₀ k₀ best k =

@@ -4,10 +4,6 @@ use borrow.Author.Tests.{eq-eqb, ne-eqb, lt-ltb, le-ltb}
 use borrow.Author.Needs.{needs}
 use Rattle.turning.proofs.higher_of.Statement.{statement}
 use Rattle.turning.proofs.higher_of.Tie as tie
-use Rattle.turning.proofs.higher_of.Reads as reads
-use Rattle.turning.proofs.higher_of.Lts as lts
-use Rattle.layout.proofs.jobs.Reads as jobs-reads
-use Rattle.layout.proofs.priority.Reads as priority-reads
 
 jobs-requires : tie.Need-jobs-requires
 jobs-requires c κs = search needs

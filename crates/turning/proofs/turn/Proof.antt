@@ -6,12 +6,6 @@ use Rattle.cells.proofs.Places.{places-in}
 use borrow.Author.Needs.{needs}
 use Rattle.turning.proofs.turn.Statement.{statement}
 use Rattle.turning.proofs.turn.Tie as tie
-use Rattle.turning.proofs.turn.Reads as reads
-use Rattle.turning.proofs.turn.Lts as lts
-use Rattle.cells.proofs.put_active.Reads as put-active-reads
-use Rattle.cells.proofs.put_running.Reads as put-running-reads
-use Rattle.layout.proofs.card.Reads as card-reads
-use Rattle.turning.proofs.first_on.Reads as first-on-reads
 
 put-active-requires : tie.Need-put-active-requires
 put-active-requires c κs = search needs
