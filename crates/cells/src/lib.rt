@@ -59,26 +59,26 @@ const UPDATE: usize = 168;
 const OWN: usize = 64;
 
 // The scalars of a job's working record (model::Working): its registers. Its marks, its numbers of this run, its copy
-// list and the update that it was called with stand in the cells. The wide ones come first and the place last: the loop
-// copies registers whole, and of the orders tried this one is among the fastest.
+// list and the update that it was called with stand in the cells. The loop copies registers
+// whole: in this order they take 32 bytes, and of the orders that do it is among the fastest.
 pub struct Registers {
-    pub ver: Version,
-    pub wid: i32,
     pub word: u32,
+    pub ver: Version,
+    pub place: Place,
     pub round: u8,
     pub lid: u8,
     pub hid: u8,
     pub next: bool,
-    pub tr: u8,
-    pub index: u8,
-    pub access: u8,
-    pub numblks: u8,
-    pub dirtycnt: u8,
-    pub j: u8,
     pub addr: u8,
     pub old: u8,
     pub new: u8,
-    pub place: Place,
+    pub numblks: u8,
+    pub dirtycnt: u8,
+    pub j: u8,
+    pub tr: u8,
+    pub index: u8,
+    pub access: u8,
+    pub wid: i32,
 }
 
 // What an item changes in the tables: the store of the step list, and what it changes of the job's own places.

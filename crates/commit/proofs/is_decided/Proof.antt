@@ -24,8 +24,8 @@ returns c none =
     let s = c .before .before .before .before in
     let l = s .args .stat .now in
     let w = s .args .w in
-    -- wid is the second field
-    let fits = c .struct-told .given .1 .0 .1 in
+    -- wid is the last field
+    let fits = c .struct-told .given .1 .1 .1 .1 .1 .1 .1 .1 .1 .1 .1 .1 .1 .1 .1 .1 .0 .1 in
     bits-test (getD l (w .hid) (pos 0)) (w .wid)
     (record { sfits = c .before .before .status .given })
     (record { sfits = fits })
