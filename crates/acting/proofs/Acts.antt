@@ -30,13 +30,13 @@ use Rattle.cells.specs.declared.Registers.{Registers}
 use Rattle.cells.specs.declared.Change.{Change}
 use Rattle.cells.specs.CellTable.{Only, otherAt, haltAt, runningAt, activeAt, updateAt}
 use Rattle.cells.specs.Tables.{Tables, ownOf, workWith, idle, machineOf, sharedOf, worksOf}
-use Rattle.cells.specs.Book.{Book, bookOf, turned, counted, committing, halted, noting, bookAfter}
+use Rattle.cells.specs.Book.{Book, bookOf, turned, counted, committing, bookAfter}
 use Rattle.cells.proofs.Places.{only-set, places-length}
 use Rattle.cells.proofs.Views.{work-at, works-step, works-length}
-use Rattle.cells.proofs.Books.{OnlyCells, machine-free, whole-so, halted-so, noted-so}
+use Rattle.cells.proofs.Books.{OnlyCells, machine-free, whole-so, halted, noting, halted-so, noted-so}
 use Rattle.registers.specs.Registers.{goto}
-use Rattle.judge.specs.Turns.{Turns, OnlyDiffers}
-use Rattle.judge.proofs.Turned.{turns-stay, turns-after}
+use Rattle.judge.specs.Turns.{Turns}
+use Rattle.judge.proofs.Turned.{OnlyDiffers, turns-stay, turns-after}
 use Rattle.acting.specs.Stepping.{Called, Stepped}
 use Rattle.acting.specs.Acting.{commitsAt, rowOf, Judged, Kept, Acts}
 use Rattle.acting.proofs.Items.{returnsBy, returnsIn, commitBy, commitIn, returns-so, commits-so}
@@ -48,10 +48,11 @@ put-back : (ws : List Registers) → set ws 0 (getD ws 0 idle) ≡ ws
 put-back [] = refl
 put-back (w ∷ ws) = refl
 
--- The book has sixteen jobs and eight cards.
+-- The book has sixteen jobs,
 all-active : (x : Tables) → length (bookOf x .active) ≡ 16
 all-active x = places-length (x .cells) activeAt 16
 
+-- and eight cards.
 all-running : (x : Tables) → length (bookOf x .running) ≡ 8
 all-running x = places-length (x .cells) runningAt 8
 
@@ -282,6 +283,7 @@ pub record Leaves (b c : Book) : Type 0 where
   pub halt : c .halt ≡ b .halt
   pub other : c .other ≡ b .other
 
+-- No change touches them.
 pub leaves : (t : List ℕ) (x : Tables) (p : ℕ) (s : Change) → Leaves (bookOf x) (bookAfter t x p s)
 leaves t x p Change.Nothing = record { entries = refl; halt = refl; other = refl }
 leaves t x p (Change.Version n f) = record { entries = refl; halt = refl; other = refl }

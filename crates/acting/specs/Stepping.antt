@@ -36,7 +36,7 @@ pub record Steps (t : List ℕ) (p : ℕ) (w : Registers) (x : Tables) : Type 0 
   pub committed : bookOf x .committed ≤ bookOf x .entries
 
 -- From tables x to tables y, job p's registers w becoming r, its item was done and counted: the machine is the one that
--- the definitions give, and some change made the book, whose store is the item's.
+-- the definitions give, and the book is what some change, whose store is the item's, makes of it.
 pub record Stepped (t : List ℕ) (p : ℕ) (w : Registers) (x : Tables) (r : Registers) (y : Tables) : Type 0 where
   pub machine-is :
       (ws : List Registers) → length ws ≡ 16 → getD ws p idle ≡ w

@@ -9,7 +9,7 @@ ghost use lib.ListN.{length, getD};
 ghost use Rattle.layout.specs.PlanTable.{sizesIn};
 ghost use Rattle.model.specs.Status.{same};
 ghost use Rattle.cells.specs.Tables.{Tables};
-ghost use Rattle.cells.specs.Effects.{Does, Fits};
+ghost use Rattle.cells.specs.Effects.{Does, StaysInside};
 ghost use Rattle.cells.specs.Fits.{PlanFits, CellsFit, RegistersFit};
 use cells::CELL_PLACES;
 use cells::Change;
@@ -22,7 +22,7 @@ use model::Version;
 // A1: Trans[p] becomes the update.
 pub fn a1(w: Registers) -> Effect
     ensures { λ r. ⌜ ((t : List ℕ) (x : Tables) (p : ℕ) → Does Place.A1 t x p w r) ⌝ }
-    ensures { λ r. ⌜ Fits r ⌝ }
+    ensures { λ r. ⌜ StaysInside r ⌝ }
 {
     registers::storing(Change::Trans, registers::go_to(w, Place::A2))
 }
@@ -30,7 +30,7 @@ pub fn a1(w: Registers) -> Effect
 // A2: Stat[p] becomes −1, round 0.
 pub fn a2(w: Registers) -> Effect
     ensures { λ r. ⌜ ((t : List ℕ) (x : Tables) (p : ℕ) → Does Place.A2 t x p w r) ⌝ }
-    ensures { λ r. ⌜ Fits r ⌝ }
+    ensures { λ r. ⌜ StaysInside r ⌝ }
 {
     let mut next = w;
     next.round = 0;
@@ -41,7 +41,7 @@ pub fn a2(w: Registers) -> Effect
 pub fn a4(plan: &[u32; PLAN_PLACES], cells: &[u32; CELL_PLACES], p: usize, w: Registers) -> Effect
     requires { ⌜ PlanFits (now plan) p × CellsFit (now cells) p ⌝ }
     ensures { λ r. ⌜ ((x : Tables) → x .cells ≡ now (cells .entry) → Does Place.A4 (now (plan .entry)) x p w r) ⌝ }
-    ensures { λ r. ⌜ Fits r ⌝ }
+    ensures { λ r. ⌜ StaysInside r ⌝ }
 {
     let lid = cells::ann(cells, layout::card(plan, p));
     let mut next = w;
@@ -75,7 +75,7 @@ pub fn a7(
     requires { ⌜ PlanFits (now plan) p × (RegistersFit w × (length (now stat) ≡ 17)) ⌝ }
     ensures { λ r. ⌜ ((x : Tables) → x .cells ≡ now (cells .entry) → x .stat ≡ now (stat .entry)
         → Does Place.A7 (now (plan .entry)) x p w r) ⌝ }
-    ensures { λ r. ⌜ Fits r ⌝ }
+    ensures { λ r. ⌜ StaysInside r ⌝ }
 {
     let v = cells::version(cells);
     let mut next = w;
@@ -114,7 +114,7 @@ pub fn a10(
     requires { ⌜ PlanFits (now plan) p × (CellsFit (now cells) p × (RegistersFit w × (length (now stat) ≡ 17))) ⌝ }
     ensures { λ r. ⌜ ((x : Tables) → x .cells ≡ now (cells .entry) → x .stat ≡ now (stat .entry)
         → Does Place.A10 (now (plan .entry)) x p w r) ⌝ }
-    ensures { λ r. ⌜ Fits r ⌝ }
+    ensures { λ r. ⌜ StaysInside r ⌝ }
 {
     let ver = w.ver;
     let hid = cells::ann(cells, (ver.count + 1) % layout::cards(plan)) as u8;
@@ -129,7 +129,7 @@ pub fn a12(cells: &[u32; CELL_PLACES], w: Registers) -> Effect
     requires { ⌜ RegistersFit w ⌝ }
     ensures { λ r. ⌜ ((t : List ℕ) (x : Tables) (p : ℕ) → x .cells ≡ now (cells .entry)
         → Does Place.A12 t x p w r) ⌝ }
-    ensures { λ r. ⌜ Fits r ⌝ }
+    ensures { λ r. ⌜ StaysInside r ⌝ }
 {
     let ver = w.ver;
     if registers::same_version(cells, w) {
@@ -145,7 +145,7 @@ pub fn a12(cells: &[u32; CELL_PLACES], w: Registers) -> Effect
 pub fn a14(plan: &[u32; PLAN_PLACES], p: usize, w: Registers) -> Effect
     requires { ⌜ PlanFits (now plan) p ⌝ }
     ensures { λ r. ⌜ ((x : Tables) → Does Place.A14 (now (plan .entry)) x p w r) ⌝ }
-    ensures { λ r. ⌜ Fits r ⌝ }
+    ensures { λ r. ⌜ StaysInside r ⌝ }
 {
     let announced = Change::Announced(layout::card(plan, p));
     if w.round == 0 {
@@ -160,7 +160,7 @@ pub fn a14(plan: &[u32; PLAN_PLACES], p: usize, w: Registers) -> Effect
 pub fn a15(plan: &[u32; PLAN_PLACES], p: usize, w: Registers) -> Effect
     requires { ⌜ PlanFits (now plan) p ⌝ }
     ensures { λ r. ⌜ ((x : Tables) → Does Place.A15 (now (plan .entry)) x p w r) ⌝ }
-    ensures { λ r. ⌜ Fits r ⌝ }
+    ensures { λ r. ⌜ StaysInside r ⌝ }
 {
     registers::storing(
         Change::Returned(layout::card(plan, p)),

@@ -12,9 +12,35 @@ use Rattle.cells.specs.declared.Registers.{Registers}
 use Rattle.cells.specs.CellTable.{places, Only, cellPlaces, entriesAt, committedAt, haltAt, otherAt}
 use Rattle.cells.specs.CellTable.{runningAt, activeAt}
 use Rattle.cells.specs.Tables.{Tables, lent, Whole, workWith, idle, worksOf, machineOf}
-use Rattle.cells.specs.Book.{bookOf, firstOn, turned, counted, halted, noting}
+use Rattle.cells.specs.Book.{Book, bookOf, firstOn, turned, counted}
 use Rattle.cells.proofs.Places.{only-set, places-out, places-in}
 use Rattle.cells.proofs.Views.{own-out, cells-free}
+
+-- The book stopped by the refusal of this number.
+abbrev pub halted : ℕ → Book → Book
+halted number b =
+    record {
+      entries = b .entries;
+      committed = b .committed;
+      halt = number;
+      other = b .other;
+      running = b .running;
+      active = b .active;
+      commits = b .commits;
+    }
+
+-- The book with this place for the first record of another kind.
+abbrev pub noting : ℕ → Book → Book
+noting place b =
+    record {
+      entries = b .entries;
+      committed = b .committed;
+      halt = b .halt;
+      other = place;
+      running = b .running;
+      active = b .active;
+      commits = b .commits;
+    }
 
 -- The jobs' records, where no job's own place differs.
 pub works-free : {lo hi : ℕ} {t u : List ℕ} → Only lo hi t u → hi ≤ 128 → (ws : List Registers)

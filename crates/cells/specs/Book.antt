@@ -88,32 +88,6 @@ counted b =
       commits = b .commits;
     }
 
--- The book stopped by the refusal of this number.
-abbrev pub halted : ℕ → Book → Book
-halted number b =
-    record {
-      entries = b .entries;
-      committed = b .committed;
-      halt = number;
-      other = b .other;
-      running = b .running;
-      active = b .active;
-      commits = b .commits;
-    }
-
--- The book with this place for the first record of another kind.
-abbrev pub noting : ℕ → Book → Book
-noting place b =
-    record {
-      entries = b .entries;
-      committed = b .committed;
-      halt = b .halt;
-      other = place;
-      running = b .running;
-      active = b .active;
-      commits = b .commits;
-    }
-
 -- What a change of job p makes of the book in tables.
 abbrev pub bookAfter : List ℕ → Tables → ℕ → Change → Book
 bookAfter t x p Change.Nothing = bookOf x

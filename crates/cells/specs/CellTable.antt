@@ -1,6 +1,6 @@
 -- The shared cells, and what is kept beside them, as one table of numbers.
 --
---     0, 1        V: its count, and its flag as 0 or 1
+--     0, 1        V: its count, and its flag, true where it is 1
 --     2           how many entries were accepted
 --     3           how many of them committed a call
 --     4           the number of the refusal that has stopped the run, 0 while it goes on
@@ -68,7 +68,7 @@ bankAt = 80
 abbrev pub numblksAt : ℕ
 numblksAt = 96
 
--- Where the jobs' own places begin: the shared cells stand below.
+-- Where job p's own 64 places begin; the shared cells stand below all of them.
 abbrev pub ownAt : ℕ → ℕ
 ownAt p = 128 + 64 * p
 

@@ -138,8 +138,8 @@ Reclaims x p w =
     → length (replaced (inRow (x .addr) p) (inRow (x .old) p) (places (x .cells) (dirtyAt p) 16) (w .numblks)) ≤ 8
 
 -- An effect stays inside, whatever the tables hold.
-abbrev pub Fits : Effect → Type 0
-Fits r = Inside (r .registers) (r .change) × ((x : Tables) (p : ℕ) → Room x p (r .change))
+abbrev pub StaysInside : Effect → Type 0
+StaysInside r = Inside (r .registers) (r .change) × ((x : Tables) (p : ℕ) → Room x p (r .change))
 
 -- From one table of cells to another job p's own part becomes what f makes of it, and no other place differs.
 pub record OwnStep (p : ℕ) (f : Own → Own) (t u : List ℕ) : Type 0 where

@@ -31,7 +31,7 @@ abbrev pub lent : List ℕ → List ℤ → List ℕ → List (List ℕ) → Lis
 lent cells stat store addr old new commits =
     record { cells = cells; stat = stat; store = store; addr = addr; old = old; new = new; commits = commits }
 
--- The tables are whole: the code's arrays have these lengths.
+-- The tables are whole: but for the rows they have the lengths of the code's arrays.
 pub record Whole (x : Tables) : Type 0 where
   pub cells : length (x .cells) ≡ cellPlaces
   pub stat : length (x .stat) ≡ 17

@@ -59,8 +59,8 @@ const UPDATE: usize = 168;
 const OWN: usize = 64;
 
 // The scalars of a job's working record (model::Working): its registers. Its marks, its numbers of this run, its copy
-// list and the update that it was called with stand in the cells. The loop copies registers
-// whole: in this order they take 32 bytes, and of the orders that do it is among the fastest.
+// list and the update that it was called with stand in the cells. The loop copies registers whole: in this order they
+// take 32 bytes, and of the orders that do it is among the fastest.
 pub struct Registers {
     pub word: u32,
     pub ver: Version,
@@ -96,7 +96,7 @@ pub enum Change {
     Trans,
     // at this place of the job's row: the address and the old number; the block is listed under that number
     Listed(u32, u32, u32),
-    // this block is written: the block of the first number is copied into that of the second
+    // this block is written: the block of one number is copied into that of the next
     Block(u32, u32, u32),
     // the word at this place of the block of this number becomes this word
     Word(u32, u32, u32),

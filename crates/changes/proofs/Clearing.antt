@@ -18,10 +18,12 @@ pub record Clears (p i : ℕ) (t u : List ℕ) : Type 0 where
   pub only : Only (ownAt p) (ownAt p + 16) t u
   pub clear : length t ≡ cellPlaces → (j : ℕ) → j < i → getD u (ownAt p + j) 0 ≡ 0
 
+-- None is cleared at first.
 pub clear-none : (p : ℕ) (t : List ℕ) → Clears p 0 t t
 clear-none p t =
     record { only = only-none (ownAt p) (ownAt p + 16) t; clear = λ long j h. absurd (omega arith) }
 
+-- One more is cleared.
 pub clear-more :
     (p i : ℕ) (t u : List ℕ) → p < 16 → i < 16 → Clears p i t u → Clears p (i + 1) t (set u (ownAt p + i) 0)
 clear-more p i t u l h c =
@@ -38,6 +40,7 @@ clear-more p i t u l h c =
     at long j m (no n) =
         getD-set-other u (ownAt p + i) (ownAt p + j) 0 0 (λ e. n (omega arith)) ∙ c .clear long j (omega arith)
 
+-- All sixteen are: the marks of the job, and nothing else.
 pub clear-all : (p : ℕ) (t u : List ℕ) → Clears p 16 t u → OwnStep p unmarked t u
 clear-all p t u c =
     record {

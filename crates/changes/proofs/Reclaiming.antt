@@ -16,9 +16,11 @@ pub record Puts (p : ℕ) (ns : List ℕ) (t u : List ℕ) : Type 0 where
   pub only : Only (copyAt p) (copyAt p + 8) t u
   pub list : length t ≡ cellPlaces → places u (copyAt p) 8 ≡ inFirstPlaces ns (places t (copyAt p) 8)
 
+-- At first none does.
 pub puts-none : (p : ℕ) (t : List ℕ) → Puts p [] t t
 puts-none p t = record { only = only-none (copyAt p) (copyAt p + 8) t; list = λ long. refl }
 
+-- One more number, behind them.
 pub puts-more :
     (p x : ℕ) (ns t u : List ℕ) → p < 16 → length ns < 8 → Puts p ns t u
     → Puts p (ns ++ (x ∷ [])) t (set u (copyAt p + length ns) x)
@@ -39,6 +41,7 @@ puts-more p x ns t u l h c =
 pub puts-marks : (p : ℕ) (ns t u : List ℕ) → Puts p ns t u → places u (ownAt p) 16 ≡ places t (ownAt p) 16
 puts-marks p ns t u c = places-out (c .only) (ownAt p) 16 (inl (omega arith))
 
+-- All of the replaced numbers: they are reclaimed, and nothing else differs.
 pub puts-all :
     (p n : ℕ) (addr old : ℕ → ℕ) (t u : List ℕ) → Puts p (replaced addr old (places t (ownAt p) 16) n) t u
     → OwnStep p (reclaiming addr old n) t u

@@ -45,7 +45,7 @@ pub fn clear(cells: &mut [u32; CELL_PLACES], p: usize)
 
 // The replaced block numbers, in listing order, take the first places of job p's copy list: of the n listed blocks of
 // its row the old numbers of those written.
-pub fn reclaim(cells: &mut [u32; CELL_PLACES], p: usize, n: u32, addr: [u32; 16], old: [u32; 16])
+fn reclaim(cells: &mut [u32; CELL_PLACES], p: usize, n: u32, addr: [u32; 16], old: [u32; 16])
     requires { ⌜ (p < 16) × ((n ≤ 16) × ((i : ℕ) → getD addr i 0 < 16)) ⌝ }
     requires { ⌜ length (replaced (λ i. getD addr i 0) (λ i. getD old i 0) (places (now cells) (dirtyAt p) 16) n)
         ≤ 8 ⌝ }
@@ -112,8 +112,8 @@ pub fn published(
     out
 }
 
-// The words from one place on are copied to another, as many as a block has. They go upwards one by one, so the words
-// that are copied may not reach into a later place.
+// The words from one place on are copied to another, as many as a block has. They go upwards one by one, so
+// where they go to a later place they may not reach into it.
 pub fn copy_words(store: &mut [u32], words: usize, from: usize, to: usize)
     requires { ⌜ (length (now store) ≡ 2304) × ((from + words ≤ 2304) × (to + words ≤ 2304)) ⌝ }
     requires { ⌜ (from < to → from + words ≤ to) ⌝ }

@@ -13,7 +13,7 @@ ghost use Rattle.model.specs.Status.{same, jobNamed};
 ghost use Rattle.model.specs.Steps.{sameVersion};
 ghost use Rattle.cells.specs.CellTable.{places, versionIn, bankAt};
 ghost use Rattle.cells.specs.Tables.{Tables};
-ghost use Rattle.cells.specs.Effects.{Does, Fits};
+ghost use Rattle.cells.specs.Effects.{Does, StaysInside};
 ghost use Rattle.cells.specs.Fits.{PlanFits, CellsFit, RegistersFit};
 ghost use Rattle.commit.specs.Rows.{afterStore, atLine};
 use cells::CELL_PLACES;
@@ -27,7 +27,7 @@ use model::Place;
 pub fn h32(plan: &[u32; PLAN_PLACES], stat: &[i32; 17], p: usize, w: Registers) -> Effect
     requires { ⌜ PlanFits (now plan) p × (RegistersFit w × (length (now stat) ≡ 17)) ⌝ }
     ensures { λ r. ⌜ ((x : Tables) → x .stat ≡ now (stat .entry) → Does Place.H32 (now (plan .entry)) x p w r) ⌝ }
-    ensures { λ r. ⌜ Fits r ⌝ }
+    ensures { λ r. ⌜ StaysInside r ⌝ }
 {
     let mut next = w;
     next.wid = stat[w.hid as usize];
@@ -52,7 +52,7 @@ fn job_named(status: i32) -> usize
 pub fn h34(cells: &[u32; CELL_PLACES], p: usize, w: Registers) -> Effect
     requires { ⌜ CellsFit (now cells) p × Names (w .wid) ⌝ }
     ensures { λ r. ⌜ ((t : List ℕ) (x : Tables) → x .cells ≡ now (cells .entry) → Does Place.H34 t x p w r) ⌝ }
-    ensures { λ r. ⌜ Fits r ⌝ }
+    ensures { λ r. ⌜ StaysInside r ⌝ }
 {
     let n = cells::numblks(cells, job_named(w.wid));
     let mut next = w;
@@ -68,7 +68,7 @@ pub fn h34(cells: &[u32; CELL_PLACES], p: usize, w: Registers) -> Effect
 pub fn h36(cells: &[u32; CELL_PLACES], w: Registers) -> Effect
     ensures { λ r. ⌜ ((t : List ℕ) (x : Tables) (p : ℕ) → x .cells ≡ now (cells .entry)
         → Does Place.H36 t x p w r) ⌝ }
-    ensures { λ r. ⌜ Fits r ⌝ }
+    ensures { λ r. ⌜ StaysInside r ⌝ }
 {
     if !registers::same_version(cells, w) {
         return registers::quiet(registers::go_to(w, Place::A10));
@@ -80,7 +80,7 @@ pub fn h36(cells: &[u32; CELL_PLACES], w: Registers) -> Effect
 pub fn h37(plan: &[u32; PLAN_PLACES], stat: &[i32; 17], p: usize, w: Registers) -> Effect
     requires { ⌜ PlanFits (now plan) p × (RegistersFit w × (length (now stat) ≡ 17)) ⌝ }
     ensures { λ r. ⌜ ((x : Tables) → x .stat ≡ now (stat .entry) → Does Place.H37 (now (plan .entry)) x p w r) ⌝ }
-    ensures { λ r. ⌜ Fits r ⌝ }
+    ensures { λ r. ⌜ StaysInside r ⌝ }
 {
     if registers::is_finished(plan, stat, w.hid) {
         return registers::quiet(registers::go_to(w, Place::A10));
@@ -114,7 +114,7 @@ pub fn h38(
         × (inRow (now new) k i < mostNumbers))) ⌝ }
     ensures { λ r. ⌜ ((t : List ℕ) (x : Tables) (p : ℕ) → x .addr ≡ now (addr .entry) → x .old ≡ now (old .entry)
         → x .new ≡ now (new .entry) → Does Place.H38 t x p w r) ⌝ }
-    ensures { λ r. ⌜ Fits r ⌝ }
+    ensures { λ r. ⌜ StaysInside r ⌝ }
 {
     let wid = job_named(w.wid);
     let next = read_line(w, addr[wid], old[wid], new[wid]);
@@ -151,7 +151,7 @@ pub fn h41(cells: &[u32; CELL_PLACES], w: Registers) -> Effect
     requires { ⌜ RegistersFit w × (w .j < w .numblks) ⌝ }
     ensures { λ r. ⌜ ((t : List ℕ) (x : Tables) (p : ℕ) → x .cells ≡ now (cells .entry)
         → Does Place.H41 t x p w r) ⌝ }
-    ensures { λ r. ⌜ Fits r ⌝ }
+    ensures { λ r. ⌜ StaysInside r ⌝ }
 {
     if may_store(cells, w) {
         return registers::doing(Change::Bank(w.addr as u32, w.new as u32), after_store(w));
@@ -186,7 +186,7 @@ pub fn h42(cells: &[u32; CELL_PLACES], stat: &[i32; 17], w: Registers) -> Effect
     requires { ⌜ (w .hid < 16) × (length (now stat) ≡ 17) ⌝ }
     ensures { λ r. ⌜ ((t : List ℕ) (x : Tables) (p : ℕ) → x .cells ≡ now (cells .entry) → x .stat ≡ now (stat .entry)
         → Does Place.H42 t x p w r) ⌝ }
-    ensures { λ r. ⌜ Fits r ⌝ }
+    ensures { λ r. ⌜ StaysInside r ⌝ }
 {
     if may_commit(cells, stat, w) {
         return registers::doing(

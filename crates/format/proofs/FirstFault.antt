@@ -152,7 +152,7 @@ right-step has n none (refused f m) found right = (suc (right .0), omega arith, 
 right-step has n none (sound d) found right = all-clear has found right
 
 -- A line more is counted, whatever it says.
-one-more : (d : Draft) (x : Option Item) → after d x .lines ≡ d .lines + 1
+pub one-more : (d : Draft) (x : Option Item) → after d x .lines ≡ d .lines + 1
 one-more d none = refl
 one-more d (some i) = refl
 

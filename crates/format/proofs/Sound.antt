@@ -472,7 +472,7 @@ fields-listed s t n ended [] = refl
 fields-listed s t n ended (f ∷ fs) = kind-listed s t n (kindOf f) fs
 
 -- The same of a line.
-line-listed : (s t n : ℕ) (l : Line) → listed n (recordOf s l .item) ≡ listed n (recordOf t l .item)
+pub line-listed : (s t n : ℕ) (l : Line) → listed n (recordOf s l .item) ≡ listed n (recordOf t l .item)
 unfolding recordOf
 line-listed s t n l = fields-listed s t n (l .ended) (fields (l .bytes))
 

@@ -55,7 +55,7 @@ takesEntries Form.Schedule = true
 takesEntries Form.PlanAlone = false
 
 -- "In this order: `plan P N B S C`; N lines `job card priority`; B lines `block` with S opening words; any updates,
--- each a line `update` followed by moves; then any entries": whether a kind can stand here.
+-- each a line `update` followed by moves ..; then any entries": whether a kind can stand here.
 abbrev pub stands : Form → Draft → Kind → Bool
 stands form d Kind.Plan = eqb (d .lines) 0
 stands form d Kind.Job = lacksJobs d

@@ -9,7 +9,7 @@ ghost use Rattle.layout.specs.PlanTable.{updatesIn};
 ghost use Rattle.model.specs.Moves.{begin as beginning};
 ghost use Rattle.cells.specs.CellTable.{places, transAt};
 ghost use Rattle.cells.specs.Tables.{Tables};
-ghost use Rattle.cells.specs.Effects.{Does, Inside, Room, Fits, Reclaims};
+ghost use Rattle.cells.specs.Effects.{Does, Inside, Room, StaysInside, Reclaims};
 ghost use Rattle.cells.specs.Fits.{PlanFits, CellsFit, RegistersFit};
 use cells::CELL_PLACES;
 use cells::Change;
@@ -23,7 +23,7 @@ use model::Stage;
 pub fn h16(plan: &[u32; PLAN_PLACES], cells: &[u32; CELL_PLACES], p: usize, w: Registers) -> Effect
     requires { ⌜ PlanFits (now plan) p × CellsFit (now cells) p ⌝ }
     ensures { λ r. ⌜ ((x : Tables) → x .cells ≡ now (cells .entry) → Does Place.H16 (now (plan .entry)) x p w r) ⌝ }
-    ensures { λ r. ⌜ Fits r ⌝ }
+    ensures { λ r. ⌜ StaysInside r ⌝ }
 {
     let ver = w.ver;
     let mut next = w;
@@ -35,7 +35,7 @@ pub fn h16(plan: &[u32; PLAN_PLACES], cells: &[u32; CELL_PLACES], p: usize, w: R
 pub fn h17(plan: &[u32; PLAN_PLACES], stat: &[i32; 17], p: usize, w: Registers) -> Effect
     requires { ⌜ PlanFits (now plan) p × (RegistersFit w × (length (now stat) ≡ 17)) ⌝ }
     ensures { λ r. ⌜ ((x : Tables) → x .stat ≡ now (stat .entry) → Does Place.H17 (now (plan .entry)) x p w r) ⌝ }
-    ensures { λ r. ⌜ Fits r ⌝ }
+    ensures { λ r. ⌜ StaysInside r ⌝ }
 {
     if registers::is_finished(plan, stat, w.hid) {
         return registers::quiet(registers::go_to(w, Place::A10));
@@ -62,7 +62,7 @@ pub fn h21(plan: &[u32; PLAN_PLACES], cells: &[u32; CELL_PLACES], w: Registers) 
         × (getD (places (now cells) transAt 16) (w .hid) 0 < updatesIn (now plan))) ⌝ }
     ensures { λ r. ⌜ ((x : Tables) (p : ℕ) → x .cells ≡ now (cells .entry)
         → Does Place.H21 (now (plan .entry)) x p w r) ⌝ }
-    ensures { λ r. ⌜ Fits r ⌝ }
+    ensures { λ r. ⌜ StaysInside r ⌝ }
 {
     let tr = cells::trans(cells, w.hid as usize);
     let mut next = w;
@@ -78,7 +78,7 @@ pub fn h21(plan: &[u32; PLAN_PLACES], cells: &[u32; CELL_PLACES], w: Registers) 
 pub fn h22(w: Registers) -> Effect
     requires { ⌜ RegistersFit w ⌝ }
     ensures { λ r. ⌜ ((t : List ℕ) (x : Tables) (p : ℕ) → Does Place.H22 t x p w r) ⌝ }
-    ensures { λ r. ⌜ Fits r ⌝ }
+    ensures { λ r. ⌜ StaysInside r ⌝ }
 {
     registers::storing(
         Change::Published(w.numblks as u32),

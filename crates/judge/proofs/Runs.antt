@@ -27,6 +27,7 @@ below-higher : (t : Bool) (n p : ℕ) → p < n → Below (suc n) (cond t (some 
 below-higher true n p h = omega arith
 below-higher false n p h = omega arith
 
+-- And so with one more job looked at.
 below-next :
     (plan : Plan) (n : ℕ) (t : Bool) (o : Option ℕ) → Below n o → Below (suc n) (cond t (higher plan o n) o)
 below-next plan n true none b = omega arith

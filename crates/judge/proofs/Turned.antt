@@ -4,6 +4,7 @@
 -- the run. Assumes nothing.
 use Prim.Native.Nat.{ℕ, zero, suc, _+_, _*_, _≤_, _<_}
 use mathlib.Core.Path.{_≡_, refl, sym, _∙_, ap, subst}
+use mathlib.Core.Logic.{_≢_}
 use mathlib.Core.Bool.{Bool, true, false, cond, _&&_}
 use mathlib.Core.List.{List, [], _∷_, _++_}
 use mathlib.Core.Option.{Option, none, some}
@@ -24,10 +25,16 @@ use Rattle.model.specs.Machine.{Machine, workOf, openingOf}
 use Rattle.model.specs.Entries.{refusalNumber, activeOn, higher, runsOn}
 use Rattle.cells.specs.Book.{Book, higherOf, firstOn, turned}
 use Rattle.cells.specs.Fits.{PlanFits}
-use Rattle.judge.specs.Turns.{orNone, ActiveAre, Turns, OnlyDiffers}
+use Rattle.judge.specs.Turns.{orNone, ActiveAre, Turns}
 use Rattle.judge.specs.Rulings.{haltOf}
 use Rattle.judge.proofs.Runs.{Below, runs-below}
 
+-- Of two states only the record of job p differs, and afterwards the job is active or not.
+pub record OnlyDiffers (m m′ : Machine) (p : ℕ) (up : Bool) : Type 0 where
+  pub others : (k : ℕ) → k ≢ p → workOf m′ k ≡ workOf m k
+  pub its-own : isActive (workOf m′ p .place) ≡ up
+
+-- A test between two jobs, N where there is none.
 or-none-test : (t : Bool) (jobs k p : ℕ) → orNone jobs (cond t (some k) (some p)) ≡ cond t k p
 or-none-test true jobs k p = refl
 or-none-test false jobs k p = refl
@@ -170,6 +177,7 @@ at-rest-then [] w all h (suc k) = refl
 at-rest-then (x ∷ ws) w all h zero = all zero
 at-rest-then (x ∷ ws) w all h (suc k) = at-rest-then ws w (λ j. all (suc j)) h k
 
+-- So a table of records at rest has no active job.
 at-rest :
     (f : ℕ → Working) → ((i : ℕ) → isActive (f i .place) ≡ false) → (n k : ℕ)
     → isActive (getD (table n f) k noWork .place) ≡ false

@@ -2,8 +2,6 @@
 -- through the records. Assumes nothing.
 use Prim.Native.Nat.{ℕ, _<_}
 use mathlib.Core.Path.{_≡_}
-use mathlib.Core.Logic.{_≢_}
-use mathlib.Core.Bool.{Bool}
 use mathlib.Core.List.{List}
 use mathlib.Core.Option.{Option, none, some}
 use lib.Dec.{eqb}
@@ -29,8 +27,3 @@ pub record Turns (t : List ℕ) (m : Machine) (b : Book) : Type 0 where
   pub running-are :
       (card : ℕ) → card < sizesIn t .cards
       → getD (b .running) card 0 ≡ orNone (sizesIn t .jobs) (runsOn (planIn t) m card (sizesIn t .jobs))
-
--- Of two states only the record of job p differs, and afterwards the job is active or not.
-pub record OnlyDiffers (m m′ : Machine) (p : ℕ) (up : Bool) : Type 0 where
-  pub others : (k : ℕ) → k ≢ p → workOf m′ k ≡ workOf m k
-  pub its-own : isActive (workOf m′ p .place) ≡ up

@@ -33,15 +33,19 @@ use Rattle.open_tables.specs.Opened.{emptyCells, emptyStore}
 use Rattle.record_run.proofs.Records.{Fresh}
 use Rattle.walks.proofs.Lent.{repeat-is}
 
+-- A table of rows.
 abbrev pub Table : Type 0
 Table = List (List ℕ)
 
+-- The types of the arrays: so many words,
 abbrev pub Words : ℕ → RattleType
 Words n = Array u32 n
 
+-- the statuses,
 abbrev pub Stat : RattleType
 Stat = Array i32 17
 
+-- and so many rows of so many words.
 abbrev pub Rows : ℕ → ℕ → RattleType
 Rows k n = Array (Words k) n
 
@@ -52,6 +56,7 @@ wordsT n = tyArray (tyInt w32) n
 abbrev pub rowsT : ℕ → ℕ → Ty
 rowsT k n = tyArray (wordsT k) n
 
+-- The machine values of such arrays,
 abbrev pub wordsVal : List ℕ → Val
 wordsVal xs = arrayVal (map (vint w32) xs)
 
@@ -61,6 +66,7 @@ statVal xs = arrayVal (map (λ z. vint w32 (ofZ w32 z)) xs)
 abbrev pub rowsVal : Table → Val
 rowsVal xs = arrayVal (map wordsVal xs)
 
+-- which are the only ones.
 pub words-tell : (n : ℕ) → Tells (Words n) (Is (Words n)) (λ xs. wordsVal xs ∷ [])
 words-tell n = array-tells u32 (uint-vals w32) (uint-tells w32) n
 
@@ -74,11 +80,13 @@ rows-tell k n = array-tells (Words k) (λ xs. wordsVal xs ∷ []) (words-tell k)
 pub wide : Room u32 2304
 wide = (lit< tt, lit< tt)
 
+-- A value of a type with its machine value.
 pub record Has (R : RattleType) : Type 0 where
   pub of : R .Denot
   pub val : Val
   pub is : Is R of (val ∷ [])
 
+-- The arrays as they are made, all zeros.
 abbrev pub zeros : ℕ → List ℕ
 zeros n = replicate n 0
 
@@ -98,6 +106,7 @@ zerosVal n = repeated n (vint w32 0)
 abbrev pub noRowsVal : ℕ → ℕ → Val
 noRowsVal k n = repeated n (zerosVal k)
 
+-- They are the machine values of those arrays.
 pub zeros-is : (n : ℕ) → Is (Words n) (zeros n) (zerosVal n ∷ [])
 zeros-is n = repeat-is u32 n 0 (vint w32 0) (refl, lit< tt)
 
@@ -107,6 +116,7 @@ no-stat-is = repeat-is i32 17 (pos 0) (vint w32 0) (refl, lit< tt)
 pub no-rows-is : (k n : ℕ) → Is (Rows k n) (noRows k n) (noRowsVal k n ∷ [])
 no-rows-is k n = repeat-is (Words k) n (zeros k) (zerosVal k) (zeros-is k)
 
+-- So the arrays are made.
 abbrev pub made-words : (n : ℕ) → Has (Words n)
 made-words n = record { of = zeros n; val = zerosVal n; is = zeros-is n }
 
@@ -116,13 +126,16 @@ made-stat = record { of = noStat; val = zerosVal 17; is = no-stat-is }
 abbrev pub made-rows : (k n : ℕ) → Has (Rows k n)
 made-rows k n = record { of = noRows k n; val = noRowsVal k n; is = no-rows-is k n }
 
+-- The plan's table, the cells, the statuses and the store as the opening asks for them,
 abbrev pub Empty : List ℕ → List ℕ → List ℤ → List ℕ → Type 0
 Empty t cells stat store = (t ≡ emptyPlan) × ((cells ≡ emptyCells) × ((length stat ≡ 17) × (store ≡ emptyStore)))
 
+-- and so they are made.
 pub empty : Empty (zeros 4424) (zeros 1152) noStat (zeros 2304)
 unfolding emptyPlan emptyCells emptyStore
 empty = (refl, (refl, (length-replicate 17 (pos 0), refl)))
 
+-- So are the rows and the commits.
 pub fresh : Fresh (noRows 16 16) (noRows 16 16) (noRows 16 16) (noRows 3 4000)
 fresh = (refl, (refl, (refl, length-replicate {A = List ℕ} 4000 (zeros 3))))
 

@@ -37,8 +37,8 @@ pub extern "C" fn point_memory_run(text: &[u8], buffer: &mut [u8]) -> Ended
 }
 
 // "A whole schedule, already read into entry records, can also be run": the records run one after another beside a
-// plan's text. The report stands in the first places of the lent buffer; what lies
-// behind it stays as it was, and where no report is written all of it does.
+// plan's text. The report stands in the first places of the lent buffer; what lies behind it stays as it was, and where
+// no report is written all of it does.
 #[no_mangle]
 pub extern "C" fn point_memory_run_schedule(
     text: &[u8],

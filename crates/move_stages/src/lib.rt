@@ -5,7 +5,7 @@ ghost use mathlib.Core.List.{List};
 ghost use Prim.Native.Nat.{ℕ};
 ghost use lib.ListN.{length};
 ghost use Rattle.cells.specs.Tables.{Tables};
-ghost use Rattle.cells.specs.Effects.{Does, Fits};
+ghost use Rattle.cells.specs.Effects.{Does, StaysInside};
 ghost use Rattle.cells.specs.Fits.{PlanFits, CellsFit, RegistersFit, InMove, RoomToList, RoomToCopy, RoomAt};
 use cells::CELL_PLACES;
 use cells::Change;
@@ -20,7 +20,7 @@ fn check(cells: &[u32; CELL_PLACES], stat: &[i32; 17], w: Registers) -> Effect
     requires { ⌜ RegistersFit w × (length (now stat) ≡ 17) ⌝ }
     ensures { λ r. ⌜ ((t : List ℕ) (x : Tables) (p : ℕ) → x .cells ≡ now (cells .entry) → x .stat ≡ now (stat .entry)
         → Does (Place.Move Stage.Check) t x p w r) ⌝ }
-    ensures { λ r. ⌜ Fits r ⌝ }
+    ensures { λ r. ⌜ StaysInside r ⌝ }
 {
     if registers::may_decide(cells, stat, w) {
         return registers::quiet(registers::go_to(w, Place::Move(Stage::List)));
@@ -34,7 +34,7 @@ fn list(plan: &[u32; PLAN_PLACES], cells: &[u32; CELL_PLACES], p: usize, w: Regi
     requires { ⌜ RoomToList (now plan) (now cells) p w ⌝ }
     ensures { λ r. ⌜ ((x : Tables) → x .cells ≡ now (cells .entry)
         → Does (Place.Move Stage.List) (now (plan .entry)) x p w r) ⌝ }
-    ensures { λ r. ⌜ Fits r ⌝ }
+    ensures { λ r. ⌜ StaysInside r ⌝ }
 {
     let m = accesses::move_for(plan, w);
     let block = accesses::word_of(m, w.access) / layout::words(plan);
@@ -63,7 +63,7 @@ fn take(
     requires { ⌜ length (now store) ≡ 2304 ⌝ }
     ensures { λ r. ⌜ ((x : Tables) → x .cells ≡ now (cells .entry) → x .store ≡ now (store .entry)
         → Does (Place.Move Stage.Take) (now (plan .entry)) x p w r) ⌝ }
-    ensures { λ r. ⌜ Fits r ⌝ }
+    ensures { λ r. ⌜ StaysInside r ⌝ }
 {
     let m = accesses::move_for(plan, w);
     let word = accesses::word_of(m, w.access);
@@ -81,7 +81,7 @@ fn copy(plan: &[u32; PLAN_PLACES], cells: &[u32; CELL_PLACES], p: usize, w: Regi
     requires { ⌜ RoomToCopy (now plan) (now cells) p w ⌝ }
     ensures { λ r. ⌜ ((x : Tables) → x .cells ≡ now (cells .entry)
         → Does (Place.Move Stage.Copy) (now (plan .entry)) x p w r) ⌝ }
-    ensures { λ r. ⌜ Fits r ⌝ }
+    ensures { λ r. ⌜ StaysInside r ⌝ }
 {
     let m = accesses::move_for(plan, w);
     let block = accesses::word_of(m, w.access) / layout::words(plan);
@@ -103,7 +103,7 @@ fn write(plan: &[u32; PLAN_PLACES], cells: &[u32; CELL_PLACES], p: usize, w: Reg
     requires { ⌜ PlanFits (now plan) p × (CellsFit (now cells) p × (RegistersFit w × InMove (now plan) w)) ⌝ }
     ensures { λ r. ⌜ ((x : Tables) → x .cells ≡ now (cells .entry)
         → Does (Place.Move Stage.Write) (now (plan .entry)) x p w r) ⌝ }
-    ensures { λ r. ⌜ Fits r ⌝ }
+    ensures { λ r. ⌜ StaysInside r ⌝ }
 {
     let m = accesses::move_for(plan, w);
     let word = accesses::word_of(m, w.access);
@@ -130,7 +130,7 @@ pub fn stage(
     requires { ⌜ RoomAt st (now plan) (now cells) p w ⌝ }
     ensures { λ r. ⌜ ((x : Tables) → x .cells ≡ now (cells .entry) → x .stat ≡ now (stat .entry)
         → x .store ≡ now (store .entry) → Does (Place.Move st) (now (plan .entry)) x p w r) ⌝ }
-    ensures { λ r. ⌜ Fits r ⌝ }
+    ensures { λ r. ⌜ StaysInside r ⌝ }
 {
     match st {
         Stage::Check => check(cells, stat, w),

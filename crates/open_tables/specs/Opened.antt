@@ -20,7 +20,7 @@ emptyCells = replicate cellPlaces 0
 unfoldable pub emptyStore : List ℕ
 emptyStore = replicate 2304 0
 
--- Rows of the opening: "one row of 16 a job".
+-- Rows of the opening: "one row of 16 per job".
 abbrev pub emptyRows : List (List ℕ)
 emptyRows = replicate 16 (replicate 16 0)
 

@@ -9,20 +9,20 @@ use native.Mathlib.Omega.{arith}
 use borrow.Author.Tests.{ltb-false, le-ltb, lt-ltb, not-true}
 use lib.Dec.{ltb}
 use lib.ListN.{length, take, drop, drop-of-length-le, length-replicate}
-use Rattle.text.specs.Lines.{Line, lines, fields, numbers}
+use Rattle.text.specs.Lines.{Line, lines, fields}
 use Rattle.text.specs.Places.{placeOf}
 use Rattle.text.proofs.Lines.{lines-none, lines-ended, lines-open}
 use Rattle.text.proofs.Cases.{both}
 use Rattle.format.specs.declared.Fault.{Fault}
 use Rattle.format.specs.declared.Form.{Form}
-use Rattle.format.specs.declared.Kind.{Kind}
 use Rattle.format.specs.declared.Verdict.{Verdict}
-use Rattle.format.specs.Kinds.{kindOf}
 use Rattle.format.specs.Plan.{written}
-use Rattle.format.specs.Items.{Item, itemOf, count, Record, recordFrom, recordOf}
+use Rattle.format.specs.Items.{Item, Record, recordFrom, recordOf}
 use Rattle.format.specs.Faults.{Draft, hasFault, laidOut, lacksJobs, lacksBlocks}
 use Rattle.format.specs.Reading.{Outcome, refused, sound, after, firstOf, byNumber, orElse, readLines, recordIn}
 use Rattle.format.specs.Reading.{afterLine, listed, entriesOf, refusal, accepted, given, reading, blank}
+use Rattle.format.proofs.FirstFault.{one-more}
+use Rattle.format.proofs.Sound.{line-listed}
 use Rattle.layout.specs.PlanTable.{planPlaces, emptyPlan, sizesIn, planUpTo}
 use Rattle.layout.specs.EntryTable.{entryPlaces, listedIn}
 use Rattle.line.specs.declared.Progress.{Progress}
@@ -96,40 +96,6 @@ sound-after form d e r = go (firstOf (hasFault form d r) byNumber)
     go none q = cc
     go (some f) q = let z : _≡_ {A = ℕ} 0 1 = cc in absurd (omega arith)
 
--- One more line has been read.
-one-more : (d : Draft) (o : Option Item) → after d o .lines ≡ d .lines + 1
-one-more d none = refl
-one-more d (some i) = refl
-
--- A block says no entry, whatever its size.
-no-entry : (n : ℕ) (o : Option (List ℕ)) → listed n (itemOf Kind.Block o) ≡ []
-no-entry n none = refl
-no-entry n (some ns) = refl
-
--- The entry that a line says does not hang on the size of a block.
-any-size : (k : Kind) (s t n : ℕ) (fs : List (List ℕ))
-    → listed n (itemOf k (numbers (count s k) fs)) ≡ listed n (itemOf k (numbers (count t k) fs))
-any-size Kind.Plan s t n fs = refl
-any-size Kind.Job s t n fs = refl
-any-size Kind.Block s t n fs = no-entry n (numbers s fs) ∙ sym (no-entry n (numbers t fs))
-any-size Kind.Update s t n fs = refl
-any-size Kind.Copy s t n fs = refl
-any-size Kind.Set s t n fs = refl
-any-size Kind.Add s t n fs = refl
-any-size Kind.Call s t n fs = refl
-any-size Kind.Step s t n fs = refl
-any-size Kind.Unknown s t n fs = refl
-
--- The same of a line.
-any-size-line : (s t n : ℕ) (l : Line) → listed n (recordOf s l .item) ≡ listed n (recordOf t l .item)
-unfolding recordOf
-any-size-line s t n l = go (fields (l .bytes))
-  where
-    go : (fs : List (List ℕ))
-        → listed n (recordFrom s (l .ended) fs .item) ≡ listed n (recordFrom t (l .ended) fs .item)
-    go [] = refl
-    go (f ∷ fs) = any-size (kindOf f) s t n fs
-
 module _ (form : Form) (text : List ℕ) (c : Cursor) (x x′ : Tables) (end : ℕ) (inside : c .at < length text)
     (place : end ≡ placeOf 10 text (c .at)) (more : end < length text) (ahead : c .at ≤ end) (q : Progress)
     (here : Placed text c (x .entries))
@@ -160,7 +126,7 @@ module _ (form : Form) (text : List ℕ) (c : Cursor) (x x′ : Tables) (end : �
       let behind = entriesOf s (n + 1) (linesFrom text (end + 1)) in
       here .entries s
       ∙ ap (λ ls. noted ++ entriesOf s n ls) (lines-here form text c x x′ end inside place more)
-      ∙ ap (λ l. noted ++ (l ++ behind)) (any-size-line s (sizesIn (x .plan) .words) n thisLine)
+      ∙ ap (λ l. noted ++ (l ++ behind)) (line-listed s (sizesIn (x .plan) .words) n thisLine)
       ∙ sym (append-assoc noted (listed n says-it) behind)
       ∙ (λ i. sym (done .noted .more) i ++ entriesOf s (sym lines-is i + 1) (linesFrom text (end + 1)))
 

@@ -1,2 +1,2 @@
--- What a plan's text with a schedule of records promises.
+-- What the functions for a plan's text with a schedule of records promise.
 pub mod Records

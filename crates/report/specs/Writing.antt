@@ -7,7 +7,7 @@ use lib.Dec.{leb}
 use lib.IntN.{pos}
 use lib.ListN.{length, getD, take, drop}
 use Rattle.layout.specs.PlanTable.{sizesIn}
-use Rattle.model.specs.Ranges.{StatusIn}
+use Rattle.model.specs.Ranges.{mostNumbers, StatusIn}
 use Rattle.cells.specs.CellTable.{places, bankAt}
 use Rattle.cells.specs.Tables.{Tables, Whole}
 use Rattle.cells.specs.Book.{bookOf}
@@ -22,7 +22,7 @@ pub record Reportable (t : List ℕ) (x : Tables) : Type 0 where
   pub jobs : sizesIn t .jobs ≤ 16
   pub committed : bookOf x .committed ≤ 4000
   pub whole : Whole x
-  pub bank : (b : ℕ) → getD (places (x .cells) bankAt 16) b 0 < 144
+  pub bank : (b : ℕ) → getD (places (x .cells) bankAt 16) b 0 < mostNumbers
   pub stat : (k : ℕ) → StatusIn 16 (getD (x .stat) k (pos 0))
 
 -- A whole report of a plan's table and tables, with the number and the line of its end.

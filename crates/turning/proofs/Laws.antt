@@ -7,6 +7,7 @@ use lib.Dec.{eqb, ltb}
 use Rattle.layout.specs.PlanTable.{sizesIn, jobAt}
 use Rattle.cells.specs.Book.{higherOf}
 
+-- The best of the two, or the best so far, is at most N.
 pub within :
     (test : Bool) (t : List ℕ) (best k : ℕ) → best ≤ sizesIn t .jobs → k < sizesIn t .jobs
     → cond test (higherOf t best k) best ≤ sizesIn t .jobs
