@@ -1,10 +1,10 @@
 -- The move that a job is at, its read or write, that one's block and place, and what comes after it: what the
 -- definitions say of the plan that a table holds, in the table's numbers. Assumes nothing.
-use Prim.Native.Nat.{ℕ, suc, _+_, _*_, _/_, _%_, _≤_, _<_}
+use Prim.Native.Nat.{ℕ, _+_, _*_, _/_, _%_, _<_}
 use mathlib.Core.Path.{_≡_, refl, sym, _∙_, ap}
 use mathlib.Core.Bool.{Bool, true, false}
 use mathlib.Core.List.{List}
-use native.Mathlib.Nat.{mod-lt, mul-le-mul-right}
+use native.Mathlib.Nat.{mod-lt}
 use native.Mathlib.Omega.{arith}
 use lib.Dec.{ltb}
 use lib.ListN.{length, getD}
@@ -22,6 +22,7 @@ use Rattle.cells.specs.declared.Registers.{Registers}
 use Rattle.cells.specs.CellTable.{places, currAt}
 use Rattle.cells.specs.Tables.{Own, workWith}
 use Rattle.cells.specs.Fits.{PlanFits, CellsFit, InMove, moveFor, blockFor}
+use Rattle.cells.proofs.Blocks.{word-inside}
 use Rattle.accesses.specs.Onward.{at, onwardIn}
 
 module _ {t : List ℕ} {w : Registers} (h : InMove t w) (o : Own) where
@@ -138,11 +139,10 @@ module _ {t : List ℕ} {p : ℕ} (plan : PlanFits t p) where
     pub place-below : word % s < 16
     place-below = rw words (omega (arith, plan .words, mod-lt word (plan .some-word)))
 
-    -- A word of a block that the job numbers is in the store: 144 numbers of at most 16 words are 2,304 words.
+    -- A word of a block that the job numbers is in the store.
     pub word-in-store :
         {cells : List ℕ} {n : ℕ} → CellsFit cells p → n ≡ getD (places cells (currAt p) 16) (word / s) 0
         → n * s + word % s < 2304
     word-in-store {cells} {n} fits number =
         let few : n < mostNumbers = rw number (fits .curr (word / s)) in
-        let below : suc n * s ≤ mostNumbers * s = mul-le-mul-right s few in
-        omega (arith, plan .words, words, below, place-below)
+        word-inside s n (word % s) (rw words (plan .words)) few place-below

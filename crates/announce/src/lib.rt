@@ -1,4 +1,5 @@
-// The items A1 to A15 of the step list, in which a job announces its call. Each function is the item of its label.
+// The items A1 to A15 of the step list, in which a job announces its call, moves V on and returns. Each function is the
+// item of its label.
 ghost use mathlib.Core.Path.{_≡_};
 ghost use mathlib.Core.Bool.{not, _&&_, _||_};
 ghost use mathlib.Core.List.{List};

@@ -24,10 +24,10 @@ use Rattle.cells.specs.Book.{bookOf, bookAfter, firstOn, turned}
 use Rattle.cells.proofs.Places.{only-none, only-set, only-then, only-wider}
 use Rattle.cells.proofs.Views.{works-same, works-shared, own-works, cells-out, cells-free, cells-v, cells-ann}
 use Rattle.cells.proofs.Views.{cells-trans, cells-bank, cells-numblks}
+use Rattle.cells.proofs.Blocks.{block-inside}
 use Rattle.cells.proofs.Books.{with-cells, book-out, book-turned, whole-still}
 use Rattle.carrying.specs.Asks.{Asks}
 use Rattle.carrying.proofs.Book.{book-still, book-committed}
-use Rattle.changes.proofs.Words.{block-inside}
 
 -- A change of job p carried out, from tables x to tables y.
 abbrev pub Done : List ℕ → ℕ → Change → Tables → Tables → Type 0

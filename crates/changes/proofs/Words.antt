@@ -1,4 +1,4 @@
--- Blocks and words of the store, and a copy inside it, one turn after the other. Assumes nothing.
+-- A copy inside the store, one turn after the other. Assumes nothing.
 use Prim.Native.Nat.{ℕ, suc, _+_, _*_, _≤_, _<_}
 use mathlib.Core.Path.{_≡_}
 use mathlib.Core.List.{List}
@@ -8,7 +8,6 @@ use native.Mathlib.Decide.{decLt}
 use native.Mathlib.Omega.{arith}
 use lib.ListN.{length, getD, drop, length-drop}
 use lib.Seq.{paste}
-use Rattle.model.specs.Ranges.{mostNumbers}
 use Rattle.model.proofs.Arrays.{paste-outside}
 
 -- The next word to be copied is still as it was, where the words that are copied reach into no later place.
@@ -22,16 +21,6 @@ still d words from to n hf ht h apart =
     outside : Dec (from < to) → (from + n < to) ⊎ (to + n ≤ from + n)
     outside (yes l) = let e : from + words ≤ to = apart l in inl (omega arith)
     outside (no l) = inr (omega arith)
-
--- A block whose number is below the most that there are stands inside the store.
-pub block-inside : (words n : ℕ) → words ≤ 16 → n < mostNumbers → n * words + words ≤ 2304
-block-inside words n few h =
-    let z : suc n * words ≤ mostNumbers * words = mul-le-mul-right words h in omega arith
-
--- So does a word of it.
-pub word-inside : (words b i : ℕ) → words ≤ 16 → b < mostNumbers → i < 16 → b * words + i < 2304
-word-inside words b i few h l =
-    let z : b * words ≤ 143 * words = mul-le-mul-right words (omega arith) in omega arith
 
 -- A block that begins before another ends before it begins.
 pub block-after : (words from to : ℕ) → from * words < to * words → from * words + words ≤ to * words

@@ -1,8 +1,7 @@
 -- A block's words as a part of the store. Assumes nothing.
-use Prim.Native.Nat.{ℕ, zero, suc, _+_, _-_, _*_, _≤_, _<_}
+use Prim.Native.Nat.{ℕ, zero, suc, _+_, _-_, _*_, _≤_}
 use mathlib.Core.Path.{_≡_, refl, _∙_}
 use mathlib.Core.List.{List}
-use native.Mathlib.Nat.{mul-le-mul}
 use native.Mathlib.Omega.{arith}
 use lib.ListN.{length, getD, take, drop, length-drop}
 use lib.Seq.{take-suc, getD-drop}
@@ -15,12 +14,6 @@ part-table zero k xs h = refl
 part-table (suc n) k xs h =
     let e = take-suc (drop k xs) n 0 (rw (length-drop k xs) (omega arith)) in
     e ∙ rw (part-table n k xs (omega arith), getD-drop k xs n 0)
-
--- A block ends inside the store.
-pub block-end : (b s : ℕ) → b < 144 → s ≤ 16 → b * s + s ≤ 2304
-block-end b s hb hs =
-    let h : b * s ≤ 143 * 16 = mul-le-mul {n₁ = b} {m₁ = s} {n₂ = 143} {m₂ = 16} (omega arith) hs in
-    omega arith
 
 -- A block's words are a part of the store.
 pub block-part : (s b : ℕ) (store : List ℕ) → b * s + s ≤ length store

@@ -9,7 +9,7 @@ ghost use lib.ListN.{length, getD, take};
 ghost use Rattle.text.specs.Bytes.{bytes};
 ghost use Rattle.layout.specs.PlanTable.{sizesIn};
 ghost use Rattle.model.specs.Machine.{blockIn};
-ghost use Rattle.model.specs.Ranges.{StatusIn};
+ghost use Rattle.model.specs.Ranges.{mostNumbers, StatusIn};
 ghost use Rattle.runs.specs.Report.{lineOf, statusBytes};
 ghost use Rattle.cells.specs.CellTable.{places, bankAt, activeAt};
 ghost use Rattle.writes.specs.Writes.{Writes};
@@ -43,7 +43,7 @@ pub fn put_commits(buffer: &mut [u8], at: usize, commits: &[[u32; 3]], n: usize)
 // The line of a block of the store, of so many words.
 fn put_block(buffer: &mut [u8], at: usize, words: usize, number: usize, store: &[u32]) -> usize
     requires { ⌜ (words ≤ 16) × (at + 200 ≤ 4294967296) ⌝ }
-    requires { ⌜ (length (now store) ≡ 2304) × (number < 144) ⌝ }
+    requires { ⌜ (length (now store) ≡ 2304) × (number < mostNumbers) ⌝ }
     ensures { λ r. ⌜ Writes (lineOf (bytes "block") (blockIn words (now (store .entry)) number)) 200 at
         (now (buffer .entry)) r (now (buffer .exit)) ⌝ }
 {
@@ -61,7 +61,7 @@ pub fn put_blocks(
     store: &[u32],
 ) -> usize
     requires { ⌜ (sizesIn (now plan) .blocks ≤ 16) × ((sizesIn (now plan) .words ≤ 16) × (at + 3200 ≤ 4294967296)) ⌝ }
-    requires { ⌜ (length (now store) ≡ 2304) × ((b : ℕ) → getD (places (now cells) bankAt 16) b 0 < 144) ⌝ }
+    requires { ⌜ (length (now store) ≡ 2304) × ((b : ℕ) → getD (places (now cells) bankAt 16) b 0 < mostNumbers) ⌝ }
     ensures { λ r. ⌜ Writes
         (blocksBytes (sizesIn (now (plan .entry))) (places (now (cells .entry)) bankAt 16) (now (store .entry))) 3200 at
         (now (buffer .entry)) r (now (buffer .exit)) ⌝ }

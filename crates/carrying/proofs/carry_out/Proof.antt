@@ -9,7 +9,8 @@ use mir.Val.{toZ}
 use mir.ValLaws.{toZ-ofZ}
 use denote.Ref.{now}
 use Rattle.layout.specs.PlanTable.{sizesIn}
-use Rattle.changes.proofs.Words.{block-inside, block-after}
+use Rattle.cells.proofs.Blocks.{block-inside}
+use Rattle.changes.proofs.Words.{block-after}
 use Rattle.carrying.proofs.Carrying.{
   low,
   nothing-done,

@@ -1,6 +1,6 @@
 -- `put_word` stays inside the store. Assumes nothing.
 use native.Mathlib.Omega.{arith}
-use Rattle.changes.proofs.Words.{word-inside}
+use Rattle.cells.proofs.Blocks.{word-inside}
 use borrow.Author.Needs.{needs}
 use Rattle.changes.proofs.put_word.Statement.{statement}
 use Rattle.changes.proofs.put_word.Tie as tie

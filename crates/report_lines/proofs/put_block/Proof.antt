@@ -7,7 +7,8 @@ use denote.Ref.{now}
 use Rattle.text.specs.Bytes.{bytes}
 use Rattle.runs.specs.Report.{lineOf}
 use Rattle.writes.proofs.Writes.{widen, renamed}
-use Rattle.report_lines.proofs.Parts.{block-part, block-end}
+use Rattle.cells.proofs.Blocks.{block-inside}
+use Rattle.report_lines.proofs.Parts.{block-part}
 use Rattle.report_lines.proofs.put_block.Statement.{statement}
 use Rattle.report_lines.proofs.put_block.Tie as tie
 
@@ -17,7 +18,7 @@ inside : (c : tie.After-shared-slice-known) →
     a .number * a .words + a .words ≤ 2304
 inside c =
     let a = c .before .before .args in
-    block-end (a .number) (a .words) (omega arith) (omega arith)
+    block-inside (a .words) (a .number) (omega arith) (omega arith)
 
 mul-start : tie.Need-mul-start
 mul-start c = omega (arith, inside c)

@@ -494,6 +494,41 @@ module _ {M : Type 1} (𝓤 : URA M) (H : Heap 𝓤) (A : Atoms 𝓤) (W : Given
           l₃₀,
         ) ∷ (mutT′ Rows, l₃₁) ∷ (mutT′ Rows, l₃₂) ∷ (mutT′ Commits, l₃₃) ∷ []
 
+    -- The locals that last through the loop: the count of turns, the jobs' registers, those of the opening, and the
+    -- parameters.
+    abbrev Lasting : U → List (Item 𝓤)
+    Lasting j =
+        ‵ (fat fullShare word l₁₃ 0 (vint w64 (j .i))) ∷ ‵ (fdies word l₁₃) ∷
+        ‵ (fat fullShare worksT l₁₂ 0 (worksVal (j .ws))) ∷ ‵ (fdies worksT l₁₂) ∷
+        ‵ (fat fullShare K′.mir l₁₁ 0 v₁₁) ∷ ‵ (fdies K′.mir l₁₁) ∷
+        ‵ (fat fullShare (mutT Commits) l₁₀ 0 (ptrVal (f .1 .1 .1 .1 .1 .1 .0))) ∷ ‵ (fdies (mutT Commits) l₁₀) ∷
+        ‵ (fat fullShare (mutT Rows) l₉ 0 (ptrVal (f .1 .1 .1 .1 .1 .0))) ∷ ‵ (fdies (mutT Rows) l₉) ∷
+        ‵ (fat fullShare (mutT Rows) l₈ 0 (ptrVal (f .1 .1 .1 .1 .0))) ∷ ‵ (fdies (mutT Rows) l₈) ∷
+        ‵ (fat fullShare (mutT Rows) l₇ 0 (ptrVal (f .1 .1 .1 .0))) ∷ ‵ (fdies (mutT Rows) l₇) ∷
+        ‵ (fat fullShare storeT l₆ 0 (sliceVal (ptr (f .1 .1 .0)) (length (j .z .1 .1 .0)))) ∷ ‵ (fdies storeT l₆) ∷
+        ‵ (fat fullShare (mutT Stat) l₅ 0 (ptrVal (f .1 .0))) ∷ ‵ (fdies (mutT Stat) l₅) ∷
+        ‵ (fat fullShare (mutT Cells) l₄ 0 (ptrVal (f .0))) ∷ ‵ (fdies (mutT Cells) l₄) ∷
+        ‵ (fat fullShare planT l₃ 0 (ptrVal p)) ∷ ‵ (fdies planT l₃) ∷
+        ‵ (fat fullShare word l₂ 0 (vint w64 n)) ∷ ‵ (fdies word l₂) ∷
+        ‵ (fat fullShare recordsT l₁ 0 s) ∷ ‵ (fdies recordsT l₁) ∷
+        ‵ (froom tyUnit l₀ 0) ∷ ‵ (fdies tyUnit l₀) ∷ []
+
+    -- The locals that a turn fills for the call alone, and others.
+    abbrev ForCall : List (Item 𝓤) → List (Item 𝓤)
+    ForCall Γ =
+        ‵ (froom (mutT′ Commits) l₃₃ 0) ∷ ‵ (fdies (mutT′ Commits) l₃₃) ∷
+        ‵ (froom (mutT′ Rows) l₃₂ 0) ∷ ‵ (fdies (mutT′ Rows) l₃₂) ∷
+        ‵ (froom (mutT′ Rows) l₃₁ 0) ∷ ‵ (fdies (mutT′ Rows) l₃₁) ∷
+        ‵ (froom (mutT′ Rows) l₃₀ 0) ∷ ‵ (fdies (mutT′ Rows) l₃₀) ∷
+        ‵ (froom storeT′ l₂₉ 0) ∷ ‵ (fdies storeT′ l₂₉) ∷
+        ‵ (froom ptrT′ l₂₈ 0) ∷ ‵ (fdies ptrT′ l₂₈) ∷
+        ‵ (froom (mutT′ Stat) l₂₇ 0) ∷ ‵ (fdies (mutT′ Stat) l₂₇) ∷
+        ‵ (froom (mutT′ Cells) l₂₆ 0) ∷ ‵ (fdies (mutT′ Cells) l₂₆) ∷
+        ‵ (froom workT l₂₅ 0) ∷ ‵ (fdies workT l₂₅) ∷
+        ‵ (froom tyPtr l₂₄ 0) ∷ ‵ (fdies tyPtr l₂₄) ∷
+        ‵ (froom tyPtr l₂₃ 0) ∷ ‵ (fdies tyPtr l₂₃) ∷
+        ‵ (froom tyUnit l₂₂ 0) ∷ ‵ (fdies tyUnit l₂₂) ∷ Γ
+
     -- What is lent, with the tokens.
     abbrev Held : U → List (Item 𝓤) → List (Item 𝓤)
     Held j Γ =
@@ -502,18 +537,7 @@ module _ {M : Type 1} (𝓤 : URA M) (H : Heap 𝓤) (A : Atoms 𝓤) (W : Given
     -- The loop's head: this, and the locals, the last first.
     abbrev At : U → List (Item 𝓤)
     At j = Held j (
-        ‵ (froom (mutT′ Commits) l₃₃ 0) ∷ ‵ (fdies (mutT′ Commits) l₃₃) ∷
-        ‵ (froom (mutT′ Rows) l₃₂ 0) ∷ ‵ (fdies (mutT′ Rows) l₃₂) ∷
-        ‵ (froom (mutT′ Rows) l₃₁ 0) ∷ ‵ (fdies (mutT′ Rows) l₃₁) ∷
-        ‵ (froom (mutT′ Rows) l₃₀ 0) ∷ ‵ (fdies (mutT′ Rows) l₃₀) ∷
-        ‵ (froom storeT′ l₂₉ 0) ∷ ‵ (fdies storeT′ l₂₉) ∷
-        ‵ (froom ptrT′ l₂₈ 0) ∷ ‵ (fdies ptrT′ l₂₈) ∷
-        ‵ (froom (mutT′ Stat) l₂₇ 0) ∷ ‵ (fdies (mutT′ Stat) l₂₇) ∷
-        ‵ (froom (mutT′ Cells) l₂₆ 0) ∷ ‵ (fdies (mutT′ Cells) l₂₆) ∷
-        ‵ (froom workT l₂₅ 0) ∷ ‵ (fdies workT l₂₅) ∷
-        ‵ (froom tyPtr l₂₄ 0) ∷ ‵ (fdies tyPtr l₂₄) ∷
-        ‵ (froom tyPtr l₂₃ 0) ∷ ‵ (fdies tyPtr l₂₃) ∷
-        ‵ (froom tyUnit l₂₂ 0) ∷ ‵ (fdies tyUnit l₂₂) ∷
+        ForCall (
         ‵ (froom E′.mir l₂₁ 0) ∷ ‵ (fdies E′.mir l₂₁) ∷
         ‵ (froom tyPtr l₂₀ 0) ∷ ‵ (fdies tyPtr l₂₀) ∷
         ‵ (froom word l₁₉ 0) ∷ ‵ (fdies word l₁₉) ∷
@@ -522,36 +546,12 @@ module _ {M : Type 1} (𝓤 : URA M) (H : Heap 𝓤) (A : Atoms 𝓤) (W : Given
         ‵ (froom tyBool l₁₆ 0) ∷ ‵ (fdies tyBool l₁₆) ∷
         ‵ (froom word l₁₅ 0) ∷ ‵ (fdies word l₁₅) ∷
         ‵ (froom R′.mir l₁₄ 0) ∷ ‵ (fdies R′.mir l₁₄) ∷
-        ‵ (fat fullShare word l₁₃ 0 (vint w64 (j .i))) ∷ ‵ (fdies word l₁₃) ∷
-        ‵ (fat fullShare worksT l₁₂ 0 (worksVal (j .ws))) ∷ ‵ (fdies worksT l₁₂) ∷
-        ‵ (fat fullShare K′.mir l₁₁ 0 v₁₁) ∷ ‵ (fdies K′.mir l₁₁) ∷
-        ‵ (fat fullShare (mutT Commits) l₁₀ 0 (ptrVal (f .1 .1 .1 .1 .1 .1 .0))) ∷ ‵ (fdies (mutT Commits) l₁₀) ∷
-        ‵ (fat fullShare (mutT Rows) l₉ 0 (ptrVal (f .1 .1 .1 .1 .1 .0))) ∷ ‵ (fdies (mutT Rows) l₉) ∷
-        ‵ (fat fullShare (mutT Rows) l₈ 0 (ptrVal (f .1 .1 .1 .1 .0))) ∷ ‵ (fdies (mutT Rows) l₈) ∷
-        ‵ (fat fullShare (mutT Rows) l₇ 0 (ptrVal (f .1 .1 .1 .0))) ∷ ‵ (fdies (mutT Rows) l₇) ∷
-        ‵ (fat fullShare storeT l₆ 0 (sliceVal (ptr (f .1 .1 .0)) (length (j .z .1 .1 .0)))) ∷ ‵ (fdies storeT l₆) ∷
-        ‵ (fat fullShare (mutT Stat) l₅ 0 (ptrVal (f .1 .0))) ∷ ‵ (fdies (mutT Stat) l₅) ∷
-        ‵ (fat fullShare (mutT Cells) l₄ 0 (ptrVal (f .0))) ∷ ‵ (fdies (mutT Cells) l₄) ∷
-        ‵ (fat fullShare planT l₃ 0 (ptrVal p)) ∷ ‵ (fdies planT l₃) ∷
-        ‵ (fat fullShare word l₂ 0 (vint w64 n)) ∷ ‵ (fdies word l₂) ∷
-        ‵ (fat fullShare recordsT l₁ 0 s) ∷ ‵ (fdies recordsT l₁) ∷
-        ‵ (froom tyUnit l₀ 0) ∷ ‵ (fdies tyUnit l₀) ∷ [])
+        Lasting j))
 
     -- The job is chosen.
     abbrev Chosen : U → Val → ℕ → List (Item 𝓤)
     Chosen j v k = Held j (
-        ‵ (froom (mutT′ Commits) l₃₃ 0) ∷ ‵ (fdies (mutT′ Commits) l₃₃) ∷
-        ‵ (froom (mutT′ Rows) l₃₂ 0) ∷ ‵ (fdies (mutT′ Rows) l₃₂) ∷
-        ‵ (froom (mutT′ Rows) l₃₁ 0) ∷ ‵ (fdies (mutT′ Rows) l₃₁) ∷
-        ‵ (froom (mutT′ Rows) l₃₀ 0) ∷ ‵ (fdies (mutT′ Rows) l₃₀) ∷
-        ‵ (froom storeT′ l₂₉ 0) ∷ ‵ (fdies storeT′ l₂₉) ∷
-        ‵ (froom ptrT′ l₂₈ 0) ∷ ‵ (fdies ptrT′ l₂₈) ∷
-        ‵ (froom (mutT′ Stat) l₂₇ 0) ∷ ‵ (fdies (mutT′ Stat) l₂₇) ∷
-        ‵ (froom (mutT′ Cells) l₂₆ 0) ∷ ‵ (fdies (mutT′ Cells) l₂₆) ∷
-        ‵ (froom workT l₂₅ 0) ∷ ‵ (fdies workT l₂₅) ∷
-        ‵ (froom tyPtr l₂₄ 0) ∷ ‵ (fdies tyPtr l₂₄) ∷
-        ‵ (froom tyPtr l₂₃ 0) ∷ ‵ (fdies tyPtr l₂₃) ∷
-        ‵ (froom tyUnit l₂₂ 0) ∷ ‵ (fdies tyUnit l₂₂) ∷
+        ForCall (
         ‵ (fat fullShare E′.mir l₂₁ 0 (entryVal (getD ys (j .i) noEntry))) ∷ ‵ (fdies E′.mir l₂₁) ∷
         ‵ (fat fullShare tyPtr l₂₀ 0 (vptr b (place 12 o (j .i)))) ∷ ‵ (fdies tyPtr l₂₀) ∷
         ‵ (fat fullShare word l₁₉ 0 (vint w64 (j .i * 12))) ∷ ‵ (fdies word l₁₉) ∷
@@ -560,20 +560,7 @@ module _ {M : Type 1} (𝓤 : URA M) (H : Heap 𝓤) (A : Atoms 𝓤) (W : Given
         ‵ (froom tyBool l₁₆ 0) ∷ ‵ (fdies tyBool l₁₆) ∷
         ‵ (fat fullShare word l₁₅ 0 (vint w64 k)) ∷ ‵ (fdies word l₁₅) ∷
         ‵ (fat fullShare R′.mir l₁₄ 0 v) ∷ ‵ (fdies R′.mir l₁₄) ∷
-        ‵ (fat fullShare word l₁₃ 0 (vint w64 (j .i))) ∷ ‵ (fdies word l₁₃) ∷
-        ‵ (fat fullShare worksT l₁₂ 0 (worksVal (j .ws))) ∷ ‵ (fdies worksT l₁₂) ∷
-        ‵ (fat fullShare K′.mir l₁₁ 0 v₁₁) ∷ ‵ (fdies K′.mir l₁₁) ∷
-        ‵ (fat fullShare (mutT Commits) l₁₀ 0 (ptrVal (f .1 .1 .1 .1 .1 .1 .0))) ∷ ‵ (fdies (mutT Commits) l₁₀) ∷
-        ‵ (fat fullShare (mutT Rows) l₉ 0 (ptrVal (f .1 .1 .1 .1 .1 .0))) ∷ ‵ (fdies (mutT Rows) l₉) ∷
-        ‵ (fat fullShare (mutT Rows) l₈ 0 (ptrVal (f .1 .1 .1 .1 .0))) ∷ ‵ (fdies (mutT Rows) l₈) ∷
-        ‵ (fat fullShare (mutT Rows) l₇ 0 (ptrVal (f .1 .1 .1 .0))) ∷ ‵ (fdies (mutT Rows) l₇) ∷
-        ‵ (fat fullShare storeT l₆ 0 (sliceVal (ptr (f .1 .1 .0)) (length (j .z .1 .1 .0)))) ∷ ‵ (fdies storeT l₆) ∷
-        ‵ (fat fullShare (mutT Stat) l₅ 0 (ptrVal (f .1 .0))) ∷ ‵ (fdies (mutT Stat) l₅) ∷
-        ‵ (fat fullShare (mutT Cells) l₄ 0 (ptrVal (f .0))) ∷ ‵ (fdies (mutT Cells) l₄) ∷
-        ‵ (fat fullShare planT l₃ 0 (ptrVal p)) ∷ ‵ (fdies planT l₃) ∷
-        ‵ (fat fullShare word l₂ 0 (vint w64 n)) ∷ ‵ (fdies word l₂) ∷
-        ‵ (fat fullShare recordsT l₁ 0 s) ∷ ‵ (fdies recordsT l₁) ∷
-        ‵ (froom tyUnit l₀ 0) ∷ ‵ (fdies tyUnit l₀) ∷ [])
+        Lasting j))
 
     -- How a turn ends: nearer to the end, or with what follows the loop.
     abbrev Turned : U → Out → SProp 𝓤
