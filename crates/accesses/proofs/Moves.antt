@@ -2,7 +2,7 @@
 -- definitions say of the plan that a table holds, in the table's numbers. Assumes nothing.
 use Prim.Native.Nat.{ℕ, _+_, _*_, _/_, _%_, _<_}
 use mathlib.Core.Path.{_≡_, refl, sym, _∙_, ap}
-use mathlib.Core.Bool.{Bool, true, false}
+use mathlib.Core.Bool.{Bool, true, false, cond}
 use mathlib.Core.List.{List}
 use native.Mathlib.Nat.{mod-lt}
 use native.Mathlib.Omega.{arith}
@@ -13,7 +13,6 @@ use Rattle.layout.specs.PlanTable.{sizesIn, countAt, planIn}
 use Rattle.layout.proofs.PlanIn.{count-in, move-in}
 use Rattle.model.specs.declared.Stage.{Stage}
 use Rattle.model.specs.declared.Place.{Place}
-use Rattle.model.specs.Lists.{if_then_else_}
 use Rattle.model.specs.Moves.{read, accesses, wordOf, moves, move, access, block, offset, onward}
 use Rattle.model.specs.Working.{goto, withAccess, withWord}
 use Rattle.model.specs.Steps.{Shared, stage, quiet}
@@ -37,14 +36,11 @@ module _ {t : List ℕ} {w : Registers} (h : InMove t w) (o : Own) where
   -- What comes after it, by the two tests.
   on-by :
       (more last : Bool)
-      → (if more
-      then goto (Place.Move Stage.Check) (withAccess (w .index) (w .access + 1) (workWith o w))
-      else goto (if last then Place.Move Stage.Check else Place.H22) (withAccess (w .index + 1) 0 (workWith o w)))
+      → cond more (goto (Place.Move Stage.Check) (withAccess (w .index) (w .access + 1) (workWith o w)))
+      (goto (cond last (Place.Move Stage.Check) Place.H22) (withAccess (w .index + 1) 0 (workWith o w)))
       ≡ workWith o
-      (if more
-      then at (Place.Move Stage.Check) (w .index) (w .access + 1) w
-      else at (if last then Place.Move Stage.Check else Place.H22) (w .index + 1) 0 w)
-  unfolding if_then_else_
+      (cond more (at (Place.Move Stage.Check) (w .index) (w .access + 1) w)
+      (at (cond last (Place.Move Stage.Check) Place.H22) (w .index + 1) 0 w))
   on-by true last = refl
   on-by false last = refl
 

@@ -1,12 +1,12 @@
 -- Registers on to the next read or write of an update. Assumes nothing.
 use Prim.Native.Nat.{ℕ, _+_}
+use mathlib.Core.Bool.{cond}
 use mathlib.Core.List.{List}
 use lib.Dec.{ltb}
 use lib.ListN.{length}
 use Rattle.layout.specs.PlanTable.{countAt}
 use Rattle.model.specs.declared.Stage.{Stage}
 use Rattle.model.specs.declared.Place.{Place}
-use Rattle.model.specs.Lists.{if_then_else_}
 use Rattle.model.specs.Moves.{accesses}
 use Rattle.cells.specs.declared.Registers.{Registers}
 use Rattle.cells.specs.Fits.{moveFor}
@@ -37,6 +37,6 @@ at place index access w =
 -- After a read or write: to the next one of the move, else to the next move, else to H22.
 abbrev pub onwardIn : List ℕ → Registers → Registers
 onwardIn t w =
-    if ltb (w .access + 1) (length (accesses (moveFor t w)))
-    then at (Place.Move Stage.Check) (w .index) (w .access + 1) w
-    else at (if ltb (w .index + 1) (countAt t (w .tr)) then Place.Move Stage.Check else Place.H22) (w .index + 1) 0 w
+    cond (ltb (w .access + 1) (length (accesses (moveFor t w))))
+    (at (Place.Move Stage.Check) (w .index) (w .access + 1) w)
+    (at (cond (ltb (w .index + 1) (countAt t (w .tr))) (Place.Move Stage.Check) Place.H22) (w .index + 1) 0 w)

@@ -15,11 +15,11 @@ use Rattle.model.specs.declared.Place.{Place}
 use Rattle.model.specs.declared.Working.{Working}
 use Rattle.model.specs.declared.Store.{Store}
 use Rattle.model.specs.declared.Out.{Out}
-use Rattle.model.specs.Lists.{if_then_else_}
 use Rattle.model.specs.Status.{same}
 use Rattle.model.specs.Places.{isActive}
 use Rattle.model.specs.Moves.{begin, onward}
 use Rattle.model.specs.Steps.{Shared, afterStore, stage, item}
+use Rattle.model.proofs.Tests.{shut, shut-test, either}
 use Rattle.cells.specs.declared.Change.{Change}
 use Rattle.cells.specs.Tables.{Own}
 use Rattle.cells.specs.Effects.{storeOf}
@@ -124,12 +124,6 @@ module _ (jobs p : ℕ) (o : Own) (few : p < jobs) where
   commits-so (Change.Decided h n) = rw one-job
   commits-so (Change.Commit h) = rw (eq-eqb jobs jobs refl)
 
--- What holds of both answers holds of the one that a test gives.
-either : {A : Type 0} (P : A → Type 0) (b : Bool) (x y : A) → P x → P y → P (if b then x else y)
-unfolding if_then_else_
-either P true x y px py = px
-either P false x y px py = py
-
 -- The first stage of an update's moves is a place of an active job.
 begin-active : (ms : List Move) → isActive (begin ms) ≡ true
 begin-active [] = refl
@@ -143,18 +137,19 @@ module _ (plan : Plan) (s : Shared) (p : ℕ) (few : p < plan .sizes .jobs) wher
   -- Places after a read or write are those of an active job.
   onward-active : (w : Working) → isActive (onward plan w .place) ≡ true
   onward-active w =
-      either (λ (k : Working). isActive (k .place) ≡ true) _ _ _ refl
-      (either (λ (k : Place). isActive k ≡ true) _ _ _ refl refl)
+      rw shut-test (either (λ (k : Working). isActive (k .place) ≡ true) (shut _) _ _ refl
+      (rw shut-test (either (λ (k : Place). isActive k ≡ true) (shut _) _ _ refl refl)))
 
   -- So are the places after H41.
   stored-active : (w : Working) → isActive (afterStore plan s p w .place) ≡ true
-  stored-active w = either (λ (k : Place). isActive k ≡ true) _ _ _ refl refl
+  stored-active w = rw shut-test (either (λ (k : Place). isActive k ≡ true) (shut _) _ _ refl refl)
 
+  -- A stage does,
   stage-returns : (st : Stage) (w : Working) → Returning (stage plan s p st w)
   unfolding stage
-  stage-returns Stage.Check w = either Returning _ _ _ refl refl
-  stage-returns Stage.List w = either Returning _ _ _ refl refl
-  stage-returns Stage.Copy w = either Returning _ _ _ refl refl
+  stage-returns Stage.Check w = rw shut-test (either Returning (shut _) _ _ refl refl)
+  stage-returns Stage.List w = rw shut-test (either Returning (shut _) _ _ refl refl)
+  stage-returns Stage.Copy w = rw shut-test (either Returning (shut _) _ _ refl refl)
   stage-returns Stage.Take w = rw (onward-active _)
   stage-returns Stage.Write w = rw (onward-active w)
 
@@ -164,67 +159,79 @@ module _ (plan : Plan) (s : Shared) (p : ℕ) (few : p < plan .sizes .jobs) wher
   item-returns Place.Idle w a = cc
   item-returns Place.A1 w a = refl
   item-returns Place.A2 w a = refl
-  item-returns Place.A4 w a = either Returning _ _ _ refl refl
-  item-returns Place.A7 w a = either Returning _ _ _ refl (either Returning _ _ _ refl refl)
+  item-returns Place.A4 w a = rw shut-test (either Returning (shut _) _ _ refl refl)
+  item-returns Place.A7 w a =
+      rw shut-test (either Returning (shut _) _ _ refl (rw shut-test (either Returning (shut _) _ _ refl refl)))
   item-returns Place.A10 w a = refl
-  item-returns Place.A12 w a = either Returning _ _ _ refl refl
+  item-returns Place.A12 w a = rw shut-test (either Returning (shut _) _ _ refl refl)
   item-returns Place.A14 w a =
       let other : eqb p (plan .sizes .jobs) ≡ false = ne-eqb p (plan .sizes .jobs) (λ e. omega (arith, e)) in
-      either Returning _ _ _ other other
+      rw shut-test (either Returning (shut _) _ _ other other)
   item-returns Place.A15 w a = eq-eqb (plan .sizes .jobs) (plan .sizes .jobs) refl
   item-returns Place.H16 w a = refl
-  item-returns Place.H17 w a = either Returning _ _ _ refl (either Returning _ _ _ refl refl)
+  item-returns Place.H17 w a =
+      rw shut-test (either Returning (shut _) _ _ refl (rw shut-test (either Returning (shut _) _ _ refl refl)))
   item-returns Place.H21 w a = rw (begin-active _)
   item-returns (Place.Move st) w a = stage-returns st w
   item-returns Place.H22 w a = refl
-  item-returns Place.H25 w a = either Returning _ _ _ refl refl
-  item-returns Place.H32 w a = either Returning _ _ _ refl refl
-  item-returns Place.H34 w a = either Returning _ _ _ refl refl
-  item-returns Place.H36 w a = either Returning _ _ _ refl refl
-  item-returns Place.H37 w a = either Returning _ _ _ refl refl
+  item-returns Place.H25 w a = rw shut-test (either Returning (shut _) _ _ refl refl)
+  item-returns Place.H32 w a = rw shut-test (either Returning (shut _) _ _ refl refl)
+  item-returns Place.H34 w a = rw shut-test (either Returning (shut _) _ _ refl refl)
+  item-returns Place.H36 w a = rw shut-test (either Returning (shut _) _ _ refl refl)
+  item-returns Place.H37 w a = rw shut-test (either Returning (shut _) _ _ refl refl)
   item-returns Place.H38 w a = refl
   item-returns Place.H41 w a =
-      either Returning _ _ _ (rw (stored-active w)) (rw (stored-active w))
-  item-returns Place.H42 w a = either Returning _ _ _ refl refl
+      rw shut-test (either Returning (shut _) _ _ (rw (stored-active w)) (rw (stored-active w)))
+  item-returns Place.H42 w a = rw shut-test (either Returning (shut _) _ _ refl refl)
 
   -- An item commits the call of job hid exactly where it is H42 done, of an active job.
   abbrev Committing : Place → ℕ → Out → Type 0
   Committing place hid o = commitIn (plan .sizes .jobs) (o .store) ≡ cond (commitsAt place (o .done)) (some hid) none
 
+  -- A stage does,
   stage-commits : (st : Stage) (w : Working) → Committing (Place.Move st) (w .hid) (stage plan s p st w)
   unfolding stage
-  stage-commits Stage.Check w = either (Committing (Place.Move Stage.Check) (w .hid)) _ _ _ refl refl
-  stage-commits Stage.List w = either (Committing (Place.Move Stage.List) (w .hid)) _ _ _ refl refl
-  stage-commits Stage.Copy w = either (Committing (Place.Move Stage.Copy) (w .hid)) _ _ _ refl refl
+  stage-commits Stage.Check w =
+      rw shut-test (either (Committing (Place.Move Stage.Check) (w .hid)) (shut _) _ _ refl refl)
+  stage-commits Stage.List w =
+      rw shut-test (either (Committing (Place.Move Stage.List) (w .hid)) (shut _) _ _ refl refl)
+  stage-commits Stage.Copy w =
+      rw shut-test (either (Committing (Place.Move Stage.Copy) (w .hid)) (shut _) _ _ refl refl)
   stage-commits Stage.Take w = refl
   stage-commits Stage.Write w = refl
 
+  -- and so does every item.
   pub item-commits : (place : Place) (w : Working) → Committing place (w .hid) (item plan s p place w)
   unfolding item
   item-commits Place.Idle w = refl
   item-commits Place.A1 w = refl
   item-commits Place.A2 w = refl
-  item-commits Place.A4 w = either (Committing Place.A4 (w .hid)) _ _ _ refl refl
+  item-commits Place.A4 w = rw shut-test (either (Committing Place.A4 (w .hid)) (shut _) _ _ refl refl)
   item-commits Place.A7 w =
-      either (Committing Place.A7 (w .hid)) _ _ _ refl (either (Committing Place.A7 (w .hid)) _ _ _ refl refl)
+      rw shut-test
+      (either (Committing Place.A7 (w .hid)) (shut _) _ _ refl
+      (rw shut-test (either (Committing Place.A7 (w .hid)) (shut _) _ _ refl refl)))
   item-commits Place.A10 w = refl
-  item-commits Place.A12 w = either (Committing Place.A12 (w .hid)) _ _ _ refl refl
-  item-commits Place.A14 w = either (Committing Place.A14 (w .hid)) _ _ _ refl refl
+  item-commits Place.A12 w = rw shut-test (either (Committing Place.A12 (w .hid)) (shut _) _ _ refl refl)
+  item-commits Place.A14 w = rw shut-test (either (Committing Place.A14 (w .hid)) (shut _) _ _ refl refl)
   item-commits Place.A15 w = refl
   item-commits Place.H16 w = refl
   item-commits Place.H17 w =
-      either (Committing Place.H17 (w .hid)) _ _ _ refl (either (Committing Place.H17 (w .hid)) _ _ _ refl refl)
+      rw shut-test
+      (either (Committing Place.H17 (w .hid)) (shut _) _ _ refl
+      (rw shut-test (either (Committing Place.H17 (w .hid)) (shut _) _ _ refl refl)))
   item-commits Place.H21 w = refl
   item-commits (Place.Move st) w = stage-commits st w
   item-commits Place.H22 w = refl
   item-commits Place.H25 w =
       let other : eqb p (plan .sizes .jobs) ≡ false = ne-eqb p (plan .sizes .jobs) (λ e. omega (arith, e)) in
-      either (Committing Place.H25 (w .hid)) _ _ _ (rw other) refl
-  item-commits Place.H32 w = either (Committing Place.H32 (w .hid)) _ _ _ refl refl
-  item-commits Place.H34 w = either (Committing Place.H34 (w .hid)) _ _ _ refl refl
-  item-commits Place.H36 w = either (Committing Place.H36 (w .hid)) _ _ _ refl refl
-  item-commits Place.H37 w = either (Committing Place.H37 (w .hid)) _ _ _ refl refl
+      rw shut-test (either (Committing Place.H25 (w .hid)) (shut _) _ _ (rw other) refl)
+  item-commits Place.H32 w = rw shut-test (either (Committing Place.H32 (w .hid)) (shut _) _ _ refl refl)
+  item-commits Place.H34 w = rw shut-test (either (Committing Place.H34 (w .hid)) (shut _) _ _ refl refl)
+  item-commits Place.H36 w = rw shut-test (either (Committing Place.H36 (w .hid)) (shut _) _ _ refl refl)
+  item-commits Place.H37 w = rw shut-test (either (Committing Place.H37 (w .hid)) (shut _) _ _ refl refl)
   item-commits Place.H38 w = refl
-  item-commits Place.H41 w = either (Committing Place.H41 (w .hid)) _ _ _ refl refl
+  item-commits Place.H41 w = rw shut-test (either (Committing Place.H41 (w .hid)) (shut _) _ _ refl refl)
   item-commits Place.H42 w =
-      either (Committing Place.H42 (w .hid)) _ _ _ (rw (eq-eqb (plan .sizes .jobs) (plan .sizes .jobs) refl)) refl
+      let finished = eq-eqb (plan .sizes .jobs) (plan .sizes .jobs) refl in
+      rw shut-test (either (Committing Place.H42 (w .hid)) (shut _) _ _ (rw finished) refl)

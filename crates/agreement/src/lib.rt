@@ -2,10 +2,11 @@
 // where the two differ, and for each pack how many cases agree.
 ghost use Prim.Native.Nat.{_≤_};
 ghost use lib.ListN.{length};
+use ending::Ended;
 use format::Form;
-use libc::STDOUT_FILENO;
+use printing::OUTPUT;
+use printing::Printed;
 use reference::Answer;
-use reference::Ended;
 use text::Number;
 
 // What every byte of the buffer is before a run.
@@ -55,12 +56,14 @@ fn wanted(text: &[u8], end: Answer) -> Answer {
 
 // Writes bytes to standard output.
 fn print(bytes: &[u8]) {
-    io::write_all(STDOUT_FILENO, bytes);
+    streams::write_output(bytes);
 }
 
 // Writes a number to standard output.
 fn print_number(number: usize) {
-    io::print_decimal(STDOUT_FILENO, number as u64);
+    let mut digits = [0u8; 20];
+    let length = io::decimal(number as u64, &mut digits);
+    print(&digits[..length]);
 }
 
 // Writes an answer, its number and its line.
@@ -94,7 +97,7 @@ fn print_difference(got: Answer, want: Answer) {
 // Writes the first line of a report that is not the one that is wanted, and the one that is.
 fn print_lines(report: &[u8], output: &[u8]) {
     let before = cases::same_lines(report, output);
-    print_both(b"report: got ", cases::word(report, b'\n', before));
+    print_both(b"got ", cases::word(report, b'\n', before));
     print_both(b", wanted ", cases::word(output, b'\n', before));
     print(b"\n");
 }
@@ -161,36 +164,68 @@ fn kept(bytes: &[u8], from: usize) -> bool
     cases::count(&bytes[from..], MARKER) == bytes.len() - from
 }
 
-// Whether a report is the one that is wanted. Writes a line where it is not.
-fn compare_report(pack_name: &[u8], case_name: &[u8], report: &[u8], output: &[u8]) -> bool {
-    if check::same(report, cases::wanted_report(output)) {
+// Whether the bytes that were written are those that are wanted of a case's output. Writes a line where they are not.
+fn compare_bytes(
+    pack_name: &[u8],
+    case_name: &[u8],
+    way: &[u8],
+    written: &[u8],
+    wanted: &[u8],
+    output: &[u8],
+) -> bool {
+    if check::same(written, wanted) {
         return true;
     }
     print_names(pack_name, case_name);
-    print_lines(report, output);
+    print(way);
+    print_lines(written, output);
     false
 }
 
-// Whether a run ended as is wanted, and left the bytes past its report as they were. Writes a line where not.
+// Whether a run ended as is wanted, and left the bytes past its report as they were. Writes a line where not, which
+// says by `way` how the text was run.
 fn compare_end(
     pack_name: &[u8],
     case_name: &[u8],
+    way: &[u8],
     got: Answer,
     end: Answer,
     is_kept: bool,
 ) -> bool {
     if !same_answer(got, end) {
         print_names(pack_name, case_name);
-        print(b"run: ");
+        print(way);
         print_difference(got, end);
         return false;
     }
     if !is_kept {
         print_names(pack_name, case_name);
-        print(b"run: bytes past the report were written\n");
+        print_both(way, b"bytes past the report were written\n");
         return false;
     }
     true
+}
+
+// Whether a run ended as is wanted, wrote the bytes that are wanted of a case's output, and nothing past them. Writes a
+// line where not.
+fn compare_written(
+    pack_name: &[u8],
+    case_name: &[u8],
+    way: &[u8],
+    got: Answer,
+    end: Answer,
+    wanted: &[u8],
+    output: &[u8],
+    room: &[u8],
+    written: usize,
+) -> bool
+    requires { ⌜ written ≤ length (now room) ⌝ }
+{
+    let is_kept = kept(room, written);
+    if !compare_end(pack_name, case_name, way, got, end, is_kept) {
+        return false;
+    }
+    compare_bytes(pack_name, case_name, way, &room[..written], wanted, output)
 }
 
 // Whether a run ended with the output that is wanted, and wrote nothing past its report. Writes a line where not.
@@ -204,16 +239,64 @@ pub fn compare_run(
 ) -> bool
     requires { ⌜ ended .length ≤ length (now room) ⌝ }
 {
-    let written = ended.length;
     let got = Answer {
         number: ended.number,
         line: ended.line,
     };
-    let is_kept = kept(room, written);
-    if !compare_end(pack_name, case_name, got, end, is_kept) {
-        return false;
-    }
-    compare_report(pack_name, case_name, &room[..written], output)
+    let wanted = cases::wanted_report(output);
+    compare_written(
+        pack_name,
+        case_name,
+        b"run: ",
+        got,
+        end,
+        wanted,
+        output,
+        room,
+        ended.length,
+    )
+}
+
+// Whether what is to be printed is the output that is wanted, and nothing is written past it. Writes a line where not.
+fn compare_print(
+    pack_name: &[u8],
+    case_name: &[u8],
+    output: &[u8],
+    end: Answer,
+    printed: Printed,
+    room: &[u8],
+) -> bool
+    requires { ⌜ printed .length ≤ length (now room) ⌝ }
+{
+    let got = Answer {
+        number: printed.number as usize,
+        line: printed.line as usize,
+    };
+    compare_written(
+        pack_name,
+        case_name,
+        b"print: ",
+        got,
+        end,
+        output,
+        output,
+        room,
+        printed.length,
+    )
+}
+
+// Runs the text of a case as the program does, and compares what is to be printed.
+pub fn try_print(
+    pack_name: &[u8],
+    case_name: &[u8],
+    text: &[u8],
+    output: &[u8],
+    end: Answer,
+    room: &mut [u8; OUTPUT],
+) -> bool {
+    cases::fill(room, MARKER);
+    let printed = printing::print_run(text, room);
+    compare_print(pack_name, case_name, output, end, printed, room)
 }
 
 // Runs a text, with n bytes lent for the report.

@@ -1,34 +1,22 @@
 -- Places of a table in a row, read and stored into; a store elsewhere leaves them as they are. Assumes nothing.
-use Prim.Native.Nat.{ℕ, suc, _+_, _≤_, _<_}
+use Prim.Native.Nat.{ℕ, _+_, _≤_, _<_}
 use mathlib.Core.Path.{_≡_, refl, sym, _∙_, ap}
 use mathlib.Core.Logic.{_≢_, _⊎_, inl, inr}
-use mathlib.Core.List.{List, [], _∷_}
+use mathlib.Core.List.{List}
 use native.Mathlib.Decide.{ℕ-discrete}
 use native.Mathlib.Omega.{arith}
 use lib.ListN.{length, getD, set, replicate, length-set, length-replicate, getD-replicate}
-use lib.Seq.{getD-set-same, getD-set-other}
+use lib.Seq.{getD-set-same, getD-set-other, ext-getD}
 use Rattle.format.specs.Plan.{table}
 use Rattle.format.proofs.Tables.{length-table, getD-table, table-same}
 use Rattle.cells.specs.CellTable.{places, Only}
-
--- Two lists are the same where they are of one length and have the same elements.
-pub same-list :
-    {A : Type 0} (xs ys : List A) (d : A) → length xs ≡ length ys
-    → ((i : ℕ) → i < length xs → getD xs i d ≡ getD ys i d) → xs ≡ ys
-same-list [] [] d e h = refl
-same-list [] (y ∷ ys) d e h = absurd (omega (arith, e))
-same-list (x ∷ xs) [] d e h = absurd (omega (arith, e))
-same-list (x ∷ xs) (y ∷ ys) d e h =
-    let first : x ≡ y = h 0 (omega arith) in
-    let rest : xs ≡ ys = same-list xs ys d (omega (arith, e)) (λ i l. h (suc i) (omega arith)) in
-    rw (first, rest)
 
 -- One element of a table stored.
 pub table-set :
     {A : Type 0} (n : ℕ) (f g : ℕ → A) (d : A) (p : ℕ) → ((q : ℕ) → q < n → q ≢ p → g q ≡ f q) → p < n
     → table n g ≡ set (table n f) p (g p)
 table-set n f g d p h l =
-    same-list (table n g) (set (table n f) p (g p)) d
+    ext-getD d (table n g) (set (table n f) p (g p))
     (length-table n g ∙ sym (length-set (table n f) p (g p) ∙ length-table n f))
     (λ i m. at i (rw (length-table n g) at m) (ℕ-discrete i p))
   where
@@ -55,7 +43,7 @@ places-length t at n = length-table n (λ i. getD t (at + i) 0)
 pub places-all :
     (t : List ℕ) (at n x : ℕ) → ((i : ℕ) → i < n → getD t (at + i) 0 ≡ x) → places t at n ≡ replicate n x
 places-all t at n x h =
-    same-list (places t at n) (replicate n x) 0 (places-length t at n ∙ sym (length-replicate n x))
+    ext-getD 0 (places t at n) (replicate n x) (places-length t at n ∙ sym (length-replicate n x))
     (λ i m.
     let l : i < n = rw (places-length t at n) at m in
     places-at t at n i 0 l ∙ h i l ∙ sym (getD-replicate n i x 0 l))

@@ -22,6 +22,7 @@ use mathlib.Core.List.{List}
 use lib.Dec.{eqb}
 use lib.ListN.{length, getD}
 use Rattle.format.specs.Plan.{table}
+use Rattle.layout.specs.Puts.{part}
 use Rattle.model.specs.declared.Version.{Version}
 
 -- How many numbers the table has.
@@ -88,9 +89,9 @@ copyAt p = 160 + 64 * p
 abbrev pub updateAt : ℕ → ℕ
 updateAt p = 168 + 64 * p
 
--- The n numbers of a table from a place on, as layout's `part`, but shut: laws open it, and nothing else does.
+-- The n numbers of a table from a place on: layout's `part`, but shut. Laws open it, and nothing else does.
 unfoldable pub places : List ℕ → ℕ → ℕ → List ℕ
-places t at n = table n (λ i. getD t (at + i) 0)
+places t at n = part t at n
 
 -- V.
 abbrev pub versionIn : List ℕ → Version

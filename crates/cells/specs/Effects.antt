@@ -12,7 +12,8 @@ use Rattle.model.specs.declared.Place.{Place}
 use Rattle.model.specs.declared.Store.{Store}
 use Rattle.model.specs.declared.Out.{Out}
 use Rattle.model.specs.Status.{same, undecided}
-use Rattle.model.specs.Steps.{item, sameVersion, inFirstPlaces, replaced}
+use Rattle.text.specs.FirstPlaces.{inFirstPlaces}
+use Rattle.model.specs.Steps.{item, sameVersion, replaced}
 use Rattle.model.specs.Machine.{inRow, carriedOut}
 use Rattle.model.specs.Ranges.{mostNumbers}
 use Rattle.cells.specs.declared.Registers.{Registers}

@@ -1,17 +1,15 @@
 -- Places of a job's marks are cleared one after another. Assumes nothing.
 use Prim.Native.Nat.{ℕ, _+_, _<_}
-use mathlib.Core.Path.{_≡_, sym, _∙_}
+use mathlib.Core.Path.{_≡_, _∙_}
 use mathlib.Core.Logic.{inr}
 use mathlib.Core.List.{List}
 use native.Mathlib.Decide.{ℕ-discrete}
 use native.Mathlib.Omega.{arith}
-use lib.ListN.{length, getD, set, replicate, length-replicate}
+use lib.ListN.{length, getD, set, replicate}
 use lib.Seq.{getD-set-same, getD-set-other}
-use Rattle.model.proofs.Arrays.{getD-all}
 use Rattle.cells.specs.CellTable.{places, Only, cellPlaces, ownAt, currAt, copyAt, updateAt}
 use Rattle.cells.specs.Effects.{OwnStep, unmarked}
-use Rattle.cells.proofs.Places.{places-at, places-length, places-out, only-set, only-then, only-none, only-wider}
-use Rattle.cells.proofs.Places.{same-list}
+use Rattle.cells.proofs.Places.{places-all, places-out, only-set, only-then, only-none, only-wider}
 
 -- The first i marks of job p are cleared.
 pub record Clears (p i : ℕ) (t u : List ℕ) : Type 0 where
@@ -55,9 +53,4 @@ clear-all p t u c =
     }
   where
     marks : length t ≡ cellPlaces → places u (ownAt p) 16 ≡ replicate 16 0
-    marks long =
-        same-list (places u (ownAt p) 16) (replicate 16 0) 0
-        (places-length u (ownAt p) 16 ∙ sym (length-replicate {A = ℕ} 16 0))
-        (λ i m.
-        let h : i < 16 = rw (places-length u (ownAt p) 16) at m in
-        places-at u (ownAt p) 16 i 0 h ∙ c .clear long i h ∙ sym (getD-all 16 i 0))
+    marks long = places-all u (ownAt p) 16 0 (c .clear long)

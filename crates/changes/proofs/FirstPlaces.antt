@@ -1,26 +1,28 @@
 -- Numbers put into the first places of a list one by one, and the replaced numbers. Assumes nothing.
 use Prim.Native.Nat.{ℕ, zero, suc, _+_, _-_, _≤_, _<_}
-use mathlib.Core.Path.{_≡_, refl, sym, ap, subst, _∙_}
+use mathlib.Core.Path.{_≡_, sym, ap, subst, _∙_}
+use mathlib.Core.Bool.{cond}
 use mathlib.Core.List.{List, [], _∷_, _++_, append-nil}
 use native.Mathlib.Omega.{arith}
 use native.Mathlib.Numerals.{add-one}
 use native.Mathlib.Nat.{add-zero, add-suc}
 use borrow.Author.Tests.{eq-eqb, ne-eqb}
 use lib.Dec.{eqb}
-use lib.ListN.{length, getD, set, length-append}
+use lib.ListN.{length, getD, set, drop, length-append}
+use lib.Seq.{drop-cons, append-snoc, set-append-seam}
 use Rattle.format.specs.Plan.{table}
 use Rattle.format.proofs.Tables.{length-table}
-use Rattle.model.specs.Lists.{if_then_else_}
-use Rattle.model.specs.Steps.{replaced, inFirstPlaces}
+use Rattle.text.specs.FirstPlaces.{inFirstPlaces}
+use Rattle.model.specs.Steps.{replaced}
 
 -- One more number in the first places.
 pub one-more :
     (ns list : List ℕ) (x : ℕ) → length ns < length list
     → set (inFirstPlaces ns list) (length ns) x ≡ inFirstPlaces (ns ++ (x ∷ [])) list
-one-more [] [] x h = absurd (omega arith)
-one-more [] (y ∷ ys) x h = refl
-one-more (n ∷ ns) [] x h = absurd (omega arith)
-one-more (n ∷ ns) (y ∷ ys) x h = ap (λ l. n ∷ l) (one-more ns ys x (omega arith))
+one-more ns list x h =
+    ap (λ l. set (ns ++ l) (length ns) x) (drop-cons list (length ns) 0 h)
+    ∙ set-append-seam ns (getD list (length ns) 0) (drop (suc (length ns)) list) x
+    ∙ rw (length-append ns (x ∷ []), add-one, append-snoc)
 
 -- One more number of a table.
 pub one-more-of :
@@ -37,26 +39,26 @@ module _ (addr old : ℕ → ℕ) (dirty : List ℕ) where
   pub replaced-written :
       (i : ℕ) → getD dirty (addr i) 0 ≡ 2
       → replaced addr old dirty (i + 1) ≡ replaced addr old dirty i ++ (old i ∷ [])
-  unfolding if_then_else_
   replaced-written i h = rw (add-one, eq-eqb (getD dirty (addr i) 0) 2 h)
 
   -- A block not written adds none.
   pub replaced-unwritten :
       (i : ℕ) → (getD dirty (addr i) 0 ≡ 2 → ⊥) → replaced addr old dirty (i + 1) ≡ replaced addr old dirty i
-  unfolding if_then_else_
   replaced-unwritten i h =
       rw (add-one, ne-eqb (getD dirty (addr i) 0) 2 h) (append-nil (replaced addr old dirty i))
 
+  -- More listed blocks replace no fewer numbers,
   grows-by : (i k : ℕ) → length (replaced addr old dirty i) ≤ length (replaced addr old dirty (i + k))
   grows-by i zero = rw (add-zero i) (omega arith)
   grows-by i (suc k) =
       rw (
         add-suc i k,
         length-append (replaced addr old dirty (i + k))
-            (if eqb (getD dirty (addr (i + k)) 0) 2 then (old (i + k) ∷ []) else []),
+            (cond (eqb (getD dirty (addr (i + k)) 0) 2) (old (i + k) ∷ []) []),
       )
       (omega (arith, grows-by i k))
 
+  -- by any count of them.
   grows : (i n : ℕ) → i ≤ n → length (replaced addr old dirty i) ≤ length (replaced addr old dirty n)
   grows i n h =
       let e : i + (n - i) ≡ n = omega arith in

@@ -5,7 +5,8 @@ use mathlib.Core.Logic.{inl, inr}
 use mathlib.Core.List.{List, [], _∷_, _++_}
 use native.Mathlib.Omega.{arith}
 use lib.ListN.{length, set}
-use Rattle.model.specs.Steps.{replaced, inFirstPlaces}
+use Rattle.text.specs.FirstPlaces.{inFirstPlaces}
+use Rattle.model.specs.Steps.{replaced}
 use Rattle.cells.specs.CellTable.{places, Only, cellPlaces, ownAt, currAt, copyAt, updateAt}
 use Rattle.cells.specs.Effects.{OwnStep, reclaiming}
 use Rattle.cells.proofs.Places.{places-in, places-length, places-out, only-set, only-then, only-none, only-wider}

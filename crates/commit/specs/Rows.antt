@@ -1,15 +1,15 @@
 -- Registers at a line of a row, and on to the next listed block. Assumes nothing.
 use Prim.Native.Nat.{ℕ, _+_}
+use mathlib.Core.Bool.{cond}
 use lib.Dec.{ltb}
 use Rattle.model.specs.declared.Place.{Place}
-use Rattle.model.specs.Lists.{if_then_else_}
 use Rattle.cells.specs.declared.Registers.{Registers}
 
 -- After H41: on to the next listed block, or to H42 after the last.
 abbrev pub afterStore : Registers → Registers
 afterStore w =
     record {
-      place = if ltb (w .j + 1) (w .numblks) then Place.H36 else Place.H42;
+      place = cond (ltb (w .j + 1) (w .numblks)) Place.H36 Place.H42;
       round = w .round;
       lid = w .lid;
       hid = w .hid;

@@ -1,11 +1,11 @@
 -- What is written from the tables of a run is the report of the definitions. Assumes a sound plan and at most 4,000
 -- entries.
-use Prim.Native.Nat.{ℕ, zero, suc, _≤_, _<_}
+use Prim.Native.Nat.{ℕ, zero, suc, _+_, _≤_, _<_}
 use mathlib.Core.Path.{_≡_, refl, sym, _∙_, ap, subst}
 use mathlib.Core.Bool.{cond}
 use mathlib.Core.List.{List, [], _∷_, _++_}
 use native.Mathlib.Omega.{arith}
-use lib.IntN.{ℤ, pos, negsuc}
+use lib.IntN.{pos}
 use lib.ListN.{length, getD, take}
 use Rattle.text.specs.Bytes.{bytes}
 use Rattle.format.specs.declared.Entry.{Entry}
@@ -17,10 +17,10 @@ use Rattle.model.specs.Machine.{Machine, workOf}
 use Rattle.model.specs.History.{commitsIn, runOf}
 use Rattle.model.specs.Ranges.{StatusIn, Ranges}
 use Rattle.model.proofs.Arrays.{getD-any}
-use Rattle.ranges.proofs.Ranges.{in-range}
+use Rattle.ranges.proofs.Ranges.{status-wider, in-range}
 use Rattle.runs.specs.declared.End.{End}
 use Rattle.runs.specs.Report.{joined, lineOf, commitLines, blockLines, openLines, report, endNumber, endLine}
-use Rattle.runs.specs.Runs.{reported, endOf, outcomeOf}
+use Rattle.runs.specs.Runs.{reported, endOf, endOfRun, outcomeOf}
 use Rattle.cells.specs.declared.Registers.{Registers}
 use Rattle.cells.specs.Tables.{Tables, lent, machineOf}
 use Rattle.cells.specs.Book.{bookOf}
@@ -83,11 +83,7 @@ module _ {t : List ℕ} {es : List Entry} {ws : List Registers} {x : Tables} (ok
 
   -- Every status is −1, a job or N.
   low-stat : (k : ℕ) → StatusIn 16 (getD (x .stat) k (pos 0))
-  low-stat k = wider (getD (x .stat) k (pos 0)) (ranged .cells .stat k)
-    where
-      wider : (y : ℤ) → StatusIn (sizesIn t .jobs) y → StatusIn 16 y
-      wider (pos w) h = omega (arith, h, ok .jobs)
-      wider (negsuc a) h = h
+  low-stat k = status-wider (sizesIn t .jobs) 16 (ok .jobs) (getD (x .stat) k (pos 0)) (ranged .cells .stat k)
 
   -- The report can be written.
   pub reportable : Reportable t x
@@ -104,8 +100,8 @@ module _ {t : List ℕ} {es : List Entry} {ws : List Registers} {x : Tables} (ok
 
   -- How the run ends.
   pub end-is : (line : ℕ → ℕ) (count : ℕ)
-      → endOf (haltOf (bookOf x .halt)) (line (bookOf x .entries)) count
-      ≡ endOf (runOf (planIn t) es .refusal) (line (length (runOf (planIn t) es .history))) count
+      → endOf (haltOf (bookOf x .halt)) (bookOf x .entries + 1) (line (bookOf x .entries)) count
+      ≡ endOfRun (runOf (planIn t) es) line count
   end-is line count = rw (g .stopped-by, g .counted)
 
   -- What is written is the report, with any end.
@@ -129,7 +125,7 @@ module _ {t : List ℕ} {es : List Entry} {ws : List Registers} {x : Tables} (ok
 
   -- What the run comes to.
   pub the-outcome : (line : ℕ → ℕ) (count : ℕ) (end : End)
-      → end ≡ endOf (runOf (planIn t) es .refusal) (line (length (runOf (planIn t) es .history))) count
+      → end ≡ endOfRun (runOf (planIn t) es) line count
       → reported end (reportBytes t x (endNumber end) (endLine end)) ≡ outcomeOf (planIn t) es line count
   the-outcome line count end e =
       ap (reported end) (bytes-are end)

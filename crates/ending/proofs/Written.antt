@@ -1,4 +1,4 @@
--- A report is written out whole where it fits, and else not at all. Assumes nothing.
+-- A report is written out whole where it fits, and else not at all; its number and line. Assumes nothing.
 use Prim.Native.Nat.{ℕ}
 use mathlib.Core.Path.{_≡_, refl, sym, _∙_, ap, subst}
 use mathlib.Core.Bool.{Bool, true, false, cond}
@@ -8,11 +8,12 @@ use lib.Dec.{leb}
 use lib.ListN.{length}
 use Rattle.format.specs.declared.Fault.{Fault}
 use Rattle.runs.specs.declared.End.{End}
+use Rattle.runs.specs.Report.{endNumber, endLine}
 use Rattle.runs.specs.Runs.{Outcome, refused, reported, left}
 use Rattle.report.specs.declared.Written.{Written}
 use Rattle.report.specs.Writing.{IsWritten}
 use Rattle.ending.specs.declared.Finished.{Finished}
-use Rattle.ending.specs.Finishing.{WrittenOut}
+use Rattle.ending.specs.Finishing.{WrittenOut, endedBy, endedOf}
 
 -- The same outcome is written out alike.
 pub same-outcome : {o o′ : Outcome} {before after : List ℕ} {r : Finished} → o ≡ o′ → WrittenOut o before r after
@@ -77,3 +78,14 @@ module _ (e : End) (whole before after : List ℕ) where
           let z : _≡_ {A = ℕ} 0 1 = cc in
           absurd (omega arith)
       go false t = written-by false t _ is (is .answer-is ∙ rw t) _ refl
+
+-- An outcome that was written out has ended with the number, the line and the length of the definitions.
+pub ended-as : {o : Outcome} {before after : List ℕ} {r : Finished} → WrittenOut o before r after
+    → endedBy r ≡ endedOf o before
+ended-as w =
+    λ i.
+    record {
+      number = endNumber (w .end-is i);
+      line = endLine (w .end-is i);
+      length = w .length-is i;
+    }

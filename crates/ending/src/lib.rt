@@ -4,12 +4,12 @@ ghost use mathlib.Core.Path.{_≡_};
 ghost use mathlib.Core.List.{[]};
 ghost use Prim.Native.Nat.{_≤_};
 ghost use Rattle.format.specs.Faults.{numberOf};
-ghost use Rattle.runs.specs.Report.{endNumber, endLine};
+ghost use Rattle.runs.specs.Report.{endNumber, endLine, endEntry};
 ghost use Rattle.runs.specs.Runs.{reported, endOf};
 ghost use Rattle.cells.specs.Tables.{lent};
 ghost use Rattle.judge.specs.Rulings.{haltOf};
 ghost use Rattle.report.specs.Writing.{Reportable, reportBytes};
-ghost use Rattle.ending.specs.Finishing.{WrittenOut};
+ghost use Rattle.ending.specs.Finishing.{WrittenOut, endedBy};
 use cells::CELL_PLACES;
 use format::Fault;
 use layout::PLAN_PLACES;
@@ -19,6 +19,14 @@ use runs::End;
 // How a run ended, and the length of its report, 0 where none is written.
 pub struct Finished {
     pub end: End,
+    pub length: usize,
+}
+
+// How a run ended: its number in the table with its line, and the length of the report, 0 where none is written.
+#[repr(C)]
+pub struct Ended {
+    pub number: usize,
+    pub line: usize,
     pub length: usize,
 }
 
@@ -47,7 +55,7 @@ pub fn end_number(end: End) -> usize
     match end {
         End::Accepted(n) => 0,
         End::Faulty(f, n) => fault_number(f),
-        End::Refused(r, n) => judge::refusal_number(r) as usize,
+        End::Refused(r, i, n) => judge::refusal_number(r) as usize,
         End::NoRoom => 15,
     }
 }
@@ -59,19 +67,43 @@ pub fn end_line(end: End) -> usize
     match end {
         End::Accepted(n) => n,
         End::Faulty(f, n) => n,
-        End::Refused(r, n) => n,
+        End::Refused(r, i, n) => n,
         End::NoRoom => 0,
     }
 }
 
-// How a run ends: by the refusal that stopped it, at this line, or accepted with a count.
-pub fn end_of(halt: u32, line: usize, count: usize) -> End
-    ensures { λ r. ⌜ r ≡ endOf (haltOf halt) line count ⌝ }
+// The number of the entry that an end refuses, 0 where it refuses none.
+pub fn end_entry(end: End) -> usize
+    ensures { λ r. ⌜ r ≡ endEntry end ⌝ }
+{
+    match end {
+        End::Accepted(n) => 0,
+        End::Faulty(f, n) => 0,
+        End::Refused(r, i, n) => i,
+        End::NoRoom => 0,
+    }
+}
+
+// How a run ends: by the refusal that stopped it, with the entry's number and line, or accepted with a count.
+pub fn end_of(halt: u32, entry: usize, line: usize, count: usize) -> End
+    ensures { λ r. ⌜ r ≡ endOf (haltOf halt) entry line count ⌝ }
 {
     if halt == 0 {
         return End::Accepted(count);
     }
-    End::Refused(judge::refusal_numbered(halt), line)
+    End::Refused(judge::refusal_numbered(halt), entry, line)
+}
+
+// How a run ended, by its number and line.
+pub fn ended_of(finished: Finished) -> Ended
+    ensures { λ r. ⌜ r ≡ endedBy finished ⌝ }
+{
+    let end = finished.end;
+    Ended {
+        number: end_number(end),
+        line: end_line(end),
+        length: finished.length,
+    }
 }
 
 // The report of a run whose entries have run is written, where there is room for it; 15 is decided here, last.

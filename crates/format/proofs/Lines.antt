@@ -1,6 +1,8 @@
--- A text that is accepted has at most 65,536 lines (low-count), and no entry stands in a line past that (low-lines).
--- The argument: a text that is measured has at most 65,536 bytes, a text has at most as many lines as bytes, and an
--- entry of lines that are numbered from n on has the number of one of them. Assumes nothing.
+-- A text that is accepted has at most 65,536 lines (low-count), and no entry stands in a line past that (low-lines). A
+-- text that is refused is refused at a line of at most 65,537, one past the last (low-refused). The argument: a text
+-- that is measured has at most 65,536 bytes, a text has at most as many lines as bytes, an entry of lines that are
+-- numbered from n on has the number of one of them, and so has a refusal, or the number behind the last where the text
+-- ends too early; a text that is too long is refused at line 0. Assumes nothing.
 use Prim.Native.Nat.{ℕ, zero, suc, _+_, _≤_, _<_}
 use native.Mathlib.Omega.{arith}
 use mathlib.Core.Path.{_≡_, refl}
@@ -15,8 +17,11 @@ use Rattle.format.specs.declared.Fault.{Fault}
 use Rattle.format.specs.declared.Form.{Form}
 use Rattle.format.specs.Plan.{Plan, Listed}
 use Rattle.format.specs.Items.{Item, plan, job, block, update, move, entry, recordOf}
-use Rattle.format.specs.Reading.{blank, Outcome, refused, sound, readLines, listed, entriesOf}
+use Rattle.format.specs.Faults.{Draft, laidOut, hasFault}
+use Rattle.format.specs.Reading.{blank, recordIn, afterLine, byNumber, firstOf}
+use Rattle.format.specs.Reading.{Outcome, refused, sound, orElse, readLines, listed, entriesOf}
 use Rattle.format.specs.Reading.{Reading, refusal, accepted, given, longest, reading}
+use Rattle.format.proofs.FirstFault.{one-more}
 
 -- A byte in front of the first part makes at most one line more.
 front-lines : (b : ℕ) (ps : List (List ℕ)) → length (asLines (inFront b ps)) ≤ length (asLines ps) + 1
@@ -70,15 +75,41 @@ entries-low s n m (l ∷ ls) some-line h i =
     listed-low n m (recordOf s l .item) (entriesOf s (n + 1) ls) (omega arith)
     (entries-low s (n + 1) m ls some-line (omega arith)) i
 
--- A reading is a refusal, or its lines are few and its entries stand in them.
+-- A refusal is at a line of at most m.
+abbrev LowOutcome : ℕ → Outcome → Type 0
+LowOutcome m (refused f n) = n ≤ m
+LowOutcome m (sound d) = Unit {0}
+
+-- A text that ends is refused at the line behind its last, or not refused.
+end-refused : (d : Draft) (b : Bool) (n m : ℕ) → n ≤ m → LowOutcome m (cond b (sound d) (refused Fault.Misplaced n))
+end-refused d true n m h = tt
+end-refused d false n m h = h
+
+-- A refusal at line n, or what comes of the rest.
+or-refused : (x : Option Fault) (n m : ℕ) (rest : Outcome) → n ≤ m → LowOutcome m rest → LowOutcome m (orElse x n rest)
+or-refused (some f) n m rest h low = h
+or-refused none n m rest h low = low
+
+-- Lines are refused at one of them, or at the line behind the last.
+lines-refused :
+    (form : Form) (d : Draft) (ls : List Line) (m : ℕ) → d .lines + length ls < m → LowOutcome m (readLines form d ls)
+lines-refused form d [] m h = end-refused d (laidOut d) (d .lines + 1) m (omega arith)
+lines-refused form d (l ∷ ls) m h =
+    or-refused (firstOf (hasFault form d (recordIn d l)) byNumber) (d .lines + 1) m (readLines form (afterLine d l) ls)
+    (omega arith)
+    (lines-refused form (afterLine d l) ls m (omega (arith, one-more d (recordIn d l .item))))
+
+-- A reading is a refusal at a line that is at most one past the last, or its lines are few and its entries stand in
+-- them.
 abbrev LowReading : Reading → Type 0
-LowReading (refusal f n) = Unit {0}
+LowReading (refusal f n) = n ≤ longest + 1
 LowReading (accepted p es n) = (n ≤ longest) × ((i : ℕ) → lineAt es i ≤ longest)
 
 -- What few lines give.
-given-low : (ls : List Line) (o : Outcome) → length ls ≤ longest → LowReading (given ls o)
-given-low ls (refused f n) h = tt
-given-low ls (sound d) h = (
+given-low :
+    (ls : List Line) (o : Outcome) → length ls ≤ longest → LowOutcome (longest + 1) o → LowReading (given ls o)
+given-low ls (refused f n) h low = low
+given-low ls (sound d) h low = (
   h,
   λ i. omega (arith, entries-low (d .plan .sizes .words) 1 (length ls + 1) ls (omega arith) (omega arith) i),
 )
@@ -91,10 +122,11 @@ reading-low form text = go (ltb longest (length text)) refl
     go :
         (b : Bool) → ltb longest (length text) ≡ b
         → LowReading (cond b (refusal Fault.TooLong 0) (given (lines text) (readLines form blank (lines text))))
-    go true e = tt
+    go true e = omega arith
     go false e =
-        given-low (lines text) (readLines form blank (lines text))
-        (omega (arith, ltb-false longest (length text) e, few-lines text))
+        let few : length (lines text) ≤ longest = omega (arith, ltb-false longest (length text) e, few-lines text) in
+        given-low (lines text) (readLines form blank (lines text)) few
+        (lines-refused form blank (lines text) (longest + 1) (omega arith))
 
 -- A text that is accepted has at most 65,536 lines.
 pub low-count :
@@ -108,3 +140,8 @@ pub low-lines :
     → reading form text ≡ accepted plan listed n
     → (i : ℕ) → getD (map (λ (l : Listed). l .line) listed) i 0 ≤ 65536
 low-lines form text p es n e = (rw e at (reading-low form text)) .1
+
+-- A text that is refused is refused at a line of at most 65,537: at most one past the last of at most 65,536.
+pub low-refused :
+    (form : Form) (text : List ℕ) (f : Fault) (n : ℕ) → reading form text ≡ refusal f n → n ≤ 65537
+low-refused form text f n e = rw e at (reading-low form text)

@@ -3,13 +3,14 @@
 ghost use mathlib.Core.Path.{_≡_};
 ghost use Rattle.format.specs.Reading.{reading, verdictOf};
 ghost use Rattle.runs.specs.Runs.{runText, runSchedule, left};
-ghost use Rattle.reference.specs.Answers.{answerOf, endedOf};
+ghost use Rattle.ending.specs.Finishing.{endedOf};
+ghost use Rattle.reference.specs.Answers.{answerOf};
 use cells::CELL_PLACES;
+use ending::Ended;
 use format::Entry;
 use format::Form;
 use layout::PLAN_PLACES;
 use reference::Answer;
-use reference::Ended;
 
 // Judges a text by the numbers 1 to 10: see reference::check.
 #[no_mangle]

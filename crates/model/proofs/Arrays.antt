@@ -6,15 +6,17 @@
 use Prim.Native.Nat.{ℕ, zero, suc, _+_, _*_, _-_, _≤_, _<_}
 use mathlib.Core.Path.{_≡_, refl, sym, _∙_, ap, fun-ext}
 use mathlib.Core.Logic.{_≢_, _⊎_, inl, inr}
-use mathlib.Core.Bool.{true, false, cond}
+use mathlib.Core.Bool.{cond}
 use mathlib.Core.List.{List, _++_, [], _∷_}
 use native.Mathlib.Nat.{mul-le-mul-right}
 use native.Mathlib.Decide.{decLt}
 use native.Mathlib.Omega.{arith}
 use lib.Dec.{ltb}
-use lib.ListN.{length, getD, set, take, drop, replicate, length-drop, List·getD-append, length-append}
+use lib.ListN.{length, getD, set, take, drop, replicate, length-drop, length-append}
+use lib.ListN.{List·getD-append, List·getD-eq-default}
 use lib.Seq.{
   paste,
+  drop-nil,
   length-take-le,
   getD-set-same,
   getD-set-other,
@@ -28,7 +30,7 @@ use borrow.Author.Tests.{ltb-true, ltb-false, lt-ltb}
 use Rattle.text.proofs.Cases.{by-test}
 use Rattle.format.specs.Plan.{table}
 use Rattle.format.proofs.Tables.{length-table, getD-table}
-use Rattle.model.specs.Steps.{inFirstPlaces}
+use Rattle.text.specs.FirstPlaces.{inFirstPlaces}
 use Rattle.model.proofs.Update.{upd, upd-elim}
 
 -- A list with an element stored is the function that reads it, changed at that place.
@@ -72,33 +74,26 @@ pub length-first-places :
 length-first-places ns l h =
     length-append ns (drop (length ns) l) ∙ rw (length-drop (length ns) l) (omega arith)
 
--- Two lists in a row, read behind the first.
-getD-behind {ℓ} :
-    {A : Type ℓ} (xs ys : List A) (i : ℕ) (d : A) → length xs ≤ i → getD (xs ++ ys) i d ≡ getD ys (i - length xs) d
-getD-behind xs ys i d h =
-    ap (λ k. getD (xs ++ ys) k d) (omega arith) ∙ getD-append-add xs ys (i - length xs) d
+-- Numbers in the first places of a list, read at a place: the number there, else what the list has.
+pub first-places-at :
+    (ns list : List ℕ) (i : ℕ) → getD (inFirstPlaces ns list) i 0 ≡ getD ns i (getD list i 0)
+first-places-at [] list i = refl
+first-places-at (n ∷ ns) list zero = refl
+first-places-at (n ∷ ns) [] (suc i) =
+    ap (λ (l : List ℕ). getD (ns ++ l) i 0) (sym (drop-nil (length ns))) ∙ first-places-at ns [] i
+first-places-at (n ∷ ns) (x ∷ list) (suc i) = first-places-at ns list i
 
--- Numbers of a table in the first places of a list.
+-- The same of a table's numbers, at every place.
 pub first-places :
     (n : ℕ) (f : ℕ → ℕ) (l : List ℕ)
     → _≡_ {A = ℕ → ℕ} (λ i. getD (inFirstPlaces (table n f) l) i 0) (λ i. cond (ltb i n) (f i) (getD l i 0))
-first-places n f l = fun-ext (λ i. by-test (ltb i n) (λ t. inside i t) (λ t. behind i t))
-  where
-    inside : (i : ℕ) → ltb i n ≡ true → getD (inFirstPlaces (table n f) l) i 0 ≡ cond (ltb i n) (f i) (getD l i 0)
-    inside i t =
-        let m : i < n = ltb-true i n t in
-        rw t
-        (List·getD-append (table n f) (drop (length (table n f)) l) 0 i (rw (length-table n f) m)
-        ∙ getD-table n f 0 i m)
-
-    behind : (i : ℕ) → ltb i n ≡ false → getD (inFirstPlaces (table n f) l) i 0 ≡ cond (ltb i n) (f i) (getD l i 0)
-    behind i t =
-        let m : n ≤ i = ltb-false i n t in
-        let size : length (table n f) ≡ n = length-table n f in
-        rw t
-        (getD-behind (table n f) (drop (length (table n f)) l) i 0 (omega arith)
-        ∙ getD-drop (length (table n f)) l (i - length (table n f)) 0
-        ∙ ap (λ k. getD l k 0) (omega arith))
+first-places n f l =
+    fun-ext
+    (λ i.
+    first-places-at (table n f) l i
+    ∙ by-test (ltb i n) (λ t. rw t (getD-table n f (getD l i 0) i (ltb-true i n t)))
+    (λ t. let past = ltb-false i n t in
+    rw t (List·getD-eq-default (table n f) (getD l i 0) (omega (arith, length-table n f)))))
 
 module _ {ℓ} {A : Type ℓ} (l : List A) (at : ℕ) (part : List A) (n : ℕ) (d : A) where
   -- A list with a part of n elements copied into it at a place, read inside that part.

@@ -35,8 +35,8 @@ use Rattle.model.specs.declared.Store.{Store}
 use Rattle.model.specs.declared.Out.{Out}
 use Rattle.model.specs.Status.{same}
 use Rattle.model.specs.Moves.{block, offset, move, written}
-use Rattle.model.specs.Working.{goto, called, withRound, taking, withWord, nextBlock}
-use Rattle.model.specs.Steps.{Shared, quiet, item, stage}
+use Rattle.model.specs.Working.{goto, called, withRound, taking, withWord}
+use Rattle.model.specs.Steps.{Shared, quiet, doing, item, stage}
 use Rattle.model.proofs.Update.{upd, upd-same, upd-other, upd-at, upd-elim, upd-map}
 use Rattle.model.proofs.View.{
   Status,
@@ -59,7 +59,7 @@ use Rattle.model.proofs.View.{
   decided≢finished,
 }
 use Rattle.model.proofs.SmallSteps.{Layout, layout}
-use Rattle.model.proofs.Tests.{test, onward-elim, store-elim, begin-elim, and-l, and-r, same-version}
+use Rattle.model.proofs.Tests.{shut-test, test, onward-elim, store-elim, begin-elim, and-l, and-r, same-version}
 use Rattle.model.proofs.Counts.{target, target-card, target-le, Window, none, more, weaken, at-most-one}
 use Rattle.model.proofs.Cards.{
   Phase,
@@ -751,9 +751,9 @@ module _ (plan : Plan) (acc : Accepted (layout plan)) (sh : Shared) (job : ℕ �
   -- The stages of a move.
   stages : (st : Stage) → job p .place ≡ Place.Move st → Good (stage plan sh p st (job p))
   unfolding stage
-  stages Stage.Check e = test Good _ _ _ (λ _. calm _ (rw e) tt) (λ _. calm _ (rw e) tt)
-  stages Stage.List e = test Good _ _ _ (λ _. stay refl refl refl refl (rw e) tt) (λ _. calm _ (rw e) tt)
-  stages Stage.Copy e = test Good _ _ _ (λ _. calm _ (rw e) tt) (λ _. stay refl refl refl refl (rw e) tt)
+  stages Stage.Check e = rw shut-test (test Good _ _ _ (λ _. calm _ (rw e) tt) (λ _. calm _ (rw e) tt))
+  stages Stage.List e = rw shut-test (test Good _ _ _ (λ _. stay refl refl refl refl (rw e) tt) (λ _. calm _ (rw e) tt))
+  stages Stage.Copy e = rw shut-test (test Good _ _ _ (λ _. calm _ (rw e) tt) (λ _. stay refl refl refl refl (rw e) tt))
   stages Stage.Take e =
       onward-elim (λ x. Good (quiet x)) plan
       (withWord (sh .blk (getD (job p .curr) (block plan (job p)) 0) (offset plan (job p))) (job p))
@@ -784,11 +784,11 @@ module _ (plan : Plan) (acc : Accepted (layout plan)) (sh : Shared) (job : ℕ �
       means p (negsuc 0) undecided _ false (undecided-means (plan .sizes .jobs))
       (arms (goto Place.A4 (withRound 0 (job p))) (rw e) part refl tt)
   items Place.A4 e c fl guard fk part =
-      test Good _ _ _ (λ _. turns _ (rw e) (look-parts (second (job p)) part .1) tt)
-      (λ _. turns _ (rw e) (look-parts (second (job p)) part .0) tt)
+      rw shut-test (test Good _ _ _ (λ _. turns _ (rw e) (look-parts (second (job p)) part .1) tt)
+      (λ _. turns _ (rw e) (look-parts (second (job p)) part .0) tt))
   items Place.A7 e c fl guard fk part =
-      test Good _ _ _ (λ _. turns _ (rw e) (loop-parts (second (job p)) part) tt)
-      (λ _. test Good _ _ _ (λ _. calm _ (rw e) tt) (λ _. calm _ (rw e) tt))
+      rw shut-test (test Good _ _ _ (λ _. turns _ (rw e) (loop-parts (second (job p)) part) tt)
+      (λ _. rw shut-test (test Good _ _ _ (λ _. calm _ (rw e) tt) (λ _. calm _ (rw e) tt))))
   items Place.A10 e c fl guard fk part =
       quietly _ refl refl refl refl (rw e) part
       (λ _ ev nx k lo f t r n.
@@ -806,7 +806,7 @@ module _ (plan : Plan) (acc : Accepted (layout plan)) (sh : Shared) (job : ℕ �
       in
       absurd (clash _ (search both) nx))
   items Place.A12 e c fl guard fk part =
-      test Good _ _ _
+      rw shut-test (test Good _ _ _
       (λ t.
       let ev : job p .ver ≡ v = same-version v (job p .ver) (search) in
       subst
@@ -817,24 +817,24 @@ module _ (plan : Plan) (acc : Accepted (layout plan)) (sh : Shared) (job : ℕ �
       (record {
         kept = advances (job p .next) ev (rw e) refl (fk ev) (goto Place.A7 (job p)) (rw e) part tt;
       }))
-      (λ _. calm _ (rw e) tt)
+      (λ _. calm _ (rw e) tt))
   items Place.A14 e c fl guard fk part =
-      test Good _ _ _
+      rw shut-test (test Good _ _ _
       (λ t. announces guard p (goto Place.A4 (withRound 1 (job p))) tt (rw t at part) refl)
-      (λ t. again guard p (goto Place.A15 (job p)) tt (rw t at c) (λ _. rw (e, t)) tt)
+      (λ t. again guard p (goto Place.A15 (job p)) tt (rw t at c) (λ _. rw (e, t)) tt))
   items Place.A15 e c fl guard fk part =
       again guard (plan .sizes .jobs) (goto Place.Idle (job p)) tt c (λ lo. absurd (false≢true lo)) tt
   items Place.H16 e c fl guard fk part = calm _ (rw e) tt
   items Place.H17 e c fl guard fk part =
-      test Good _ _ _ (λ _. calm _ (rw e) tt)
-      (λ _. test Good _ _ _ (λ _. calm _ (rw e) tt) (λ _. calm _ (rw e) tt))
+      rw shut-test (test Good _ _ _ (λ _. calm _ (rw e) tt)
+      (λ _. rw shut-test (test Good _ _ _ (λ _. calm _ (rw e) tt) (λ _. calm _ (rw e) tt))))
   items Place.H21 e c fl guard fk part =
       begin-elim (λ a. Good (quiet (goto a (taking (sh .trans (job p .hid)) (job p)))))
       (getD (plan .updates) (sh .trans (job p .hid)) []) (calm _ (rw e) tt) (calm _ (rw e) tt)
   items (Place.Move st) e c fl guard fk part = stages st e
   items Place.H22 e c fl guard fk part = stay refl refl refl refl (rw e) tt
   items Place.H25 e c fl guard fk part =
-      test Good _ _ _
+      rw shut-test (test Good _ _ _
       (λ t.
       let ev : job p .ver ≡ v = same-version v (job p .ver) (search (and-l, and-r)) in
       let unset : same (sh .stat (job p .hid)) (negsuc 0) ≡ true = search (and-l, and-r) in
@@ -844,24 +844,20 @@ module _ (plan : Plan) (acc : Accepted (layout plan)) (sh : Shared) (job : ℕ �
       (fk ev (sym (ap (λ (x : Version). x .flag) ev) ∙ fl))
       (undecided-is (plan .sizes .jobs) (sh .stat (job p .hid)) ∙ unset)
       (rw e) tt))
-      (λ _. calm _ (rw e) tt)
-  items Place.H32 e c fl guard fk part = test Good _ _ _ (λ _. calm _ (rw e) tt) (λ _. calm _ (rw e) tt)
-  items Place.H34 e c fl guard fk part = test Good _ _ _ (λ _. calm _ (rw e) tt) (λ _. calm _ (rw e) tt)
-  items Place.H36 e c fl guard fk part = test Good _ _ _ (λ _. calm _ (rw e) tt) (λ _. calm _ (rw e) tt)
-  items Place.H37 e c fl guard fk part = test Good _ _ _ (λ _. calm _ (rw e) tt) (λ _. calm _ (rw e) tt)
+      (λ _. calm _ (rw e) tt))
+  items Place.H32 e c fl guard fk part = rw shut-test (test Good _ _ _ (λ _. calm _ (rw e) tt) (λ _. calm _ (rw e) tt))
+  items Place.H34 e c fl guard fk part = rw shut-test (test Good _ _ _ (λ _. calm _ (rw e) tt) (λ _. calm _ (rw e) tt))
+  items Place.H36 e c fl guard fk part = rw shut-test (test Good _ _ _ (λ _. calm _ (rw e) tt) (λ _. calm _ (rw e) tt))
+  items Place.H37 e c fl guard fk part = rw shut-test (test Good _ _ _ (λ _. calm _ (rw e) tt) (λ _. calm _ (rw e) tt))
   items Place.H38 e c fl guard fk part = calm _ (rw e) tt
   items Place.H41 e c fl guard fk part =
-      test Good _ _ _
+      rw shut-test (test Good _ _ _
       (λ _.
-      store-elim
-      (λ a.
-      Good
-      (record { work = goto a (nextBlock (job p)); store = Store.Bank (job p .addr) (job p .new); done = true }))
-      _ (stay refl refl refl refl (rw e) tt) (stay refl refl refl refl (rw e) tt))
-      (λ _.
-      store-elim (λ a. Good (quiet (goto a (nextBlock (job p))))) _ (calm _ (rw e) tt) (calm _ (rw e) tt))
+      store-elim (λ x. Good (doing (Store.Bank (job p .addr) (job p .new)) x)) (job p)
+      (stay refl refl refl refl (rw e) tt) (stay refl refl refl refl (rw e) tt))
+      (λ _. store-elim (λ x. Good (quiet x)) (job p) (calm _ (rw e) tt) (calm _ (rw e) tt)))
   items Place.H42 e c fl guard fk part =
-      test Good _ _ _
+      rw shut-test (test Good _ _ _
       (λ t.
       let ev : job p .ver ≡ v = same-version v (job p .ver) (search (and-l, and-r)) in
       let held : same (sh .stat (job p .hid)) (job p .wid) ≡ true = search (and-l, and-r) in
@@ -870,7 +866,7 @@ module _ (plan : Plan) (acc : Accepted (layout plan)) (sh : Shared) (job : ℕ �
       (commits (job p .hid) (winnerOf (job p)) (fk ev f .0)
       (ap stat (sym (fk ev f .0)) ∙ wid-means (P .jobs) (job p) _ (fl .1) (same-true _ _ held))
       f (goto Place.A10 (job p)) (rw e) tt))
-      (λ _. calm _ (rw e) tt)
+      (λ _. calm _ (rw e) tt))
 
   -- The item that p stands before keeps the layer.
   pub bypass-kept :

@@ -20,8 +20,8 @@ use Rattle.model.specs.declared.Store.{Store}
 use Rattle.model.specs.declared.Out.{Out}
 use Rattle.model.specs.Places.{isActive}
 use Rattle.model.specs.Moves.{block, offset, move, written}
-use Rattle.model.specs.Working.{goto, withRound, taking, withWord, nextBlock}
-use Rattle.model.specs.Steps.{Shared, quiet, item, stage}
+use Rattle.model.specs.Working.{goto, withRound, taking, withWord}
+use Rattle.model.specs.Steps.{Shared, quiet, doing, item, stage}
 use Rattle.model.proofs.Update.{upd, upd-same, upd-map}
 use Rattle.model.proofs.View.{
   Status,
@@ -41,7 +41,7 @@ use Rattle.model.proofs.View.{
   undecided-means,
 }
 use Rattle.model.proofs.SmallSteps.{Layout, layout}
-use Rattle.model.proofs.Tests.{test, onward-elim, store-elim, begin-elim, and-l, and-r}
+use Rattle.model.proofs.Tests.{shut-test, test, onward-elim, store-elim, begin-elim, and-l, and-r}
 use Rattle.model.proofs.Cards.{
   awake,
   active-phase,
@@ -208,9 +208,11 @@ module _ (plan : Plan) (acc : Accepted (layout plan)) (sh : Shared) (job : ℕ �
   -- The stages of a move.
   stages : (st : Stage) → job p .place ≡ Place.Move st → Good (stage plan sh p st (job p))
   unfolding stage
-  stages Stage.Check e = test Good _ _ _ (λ _. calm _ (rw e) refl) (λ _. calm _ (rw e) refl)
-  stages Stage.List e = test Good _ _ _ (λ _. stay refl (λ _. refl) (rw e) refl) (λ _. calm _ (rw e) refl)
-  stages Stage.Copy e = test Good _ _ _ (λ _. calm _ (rw e) refl) (λ _. stay refl (λ _. refl) (rw e) refl)
+  stages Stage.Check e = rw shut-test (test Good _ _ _ (λ _. calm _ (rw e) refl) (λ _. calm _ (rw e) refl))
+  stages Stage.List e =
+      rw shut-test (test Good _ _ _ (λ _. stay refl (λ _. refl) (rw e) refl) (λ _. calm _ (rw e) refl))
+  stages Stage.Copy e =
+      rw shut-test (test Good _ _ _ (λ _. calm _ (rw e) refl) (λ _. stay refl (λ _. refl) (rw e) refl))
   stages Stage.Take e =
       onward-elim (λ x. Good (quiet x)) plan
       (withWord (sh .blk (getD (job p .curr) (block plan (job p)) 0) (offset plan (job p))) (job p))
@@ -241,47 +243,48 @@ module _ (plan : Plan) (acc : Accepted (layout plan)) (sh : Shared) (job : ℕ �
       I₁ : CardsHold P s₁
       I₁ = local plan acc s I p (quiet (goto Place.A4 (withRound 0 (job p)))) refl (λ _. refl) (rw e) (rw e) tt
   items Place.A4 e own =
-      test Good _ _ _ (λ t. turns _ (rw e) (rw e) (looks (second (job p)) (rw e) true t))
-      (λ t. turns _ (rw e) (rw e) (looks (second (job p)) (rw e) false t))
+      rw shut-test (test Good _ _ _ (λ t. turns _ (rw e) (rw e) (looks (second (job p)) (rw e) true t))
+      (λ t. turns _ (rw e) (rw e) (looks (second (job p)) (rw e) false t)))
   items Place.A7 e own =
-      test Good _ _ _
+      rw shut-test (test Good _ _ _
       (λ t. turns _ (rw e) (rw e) (leaves (second (job p)) own (finished-is _ _ ∙ search (and-l, and-r))))
-      (λ _. test Good _ _ _ (λ _. calm _ (rw e) refl) (λ _. calm _ (rw e) refl))
+      (λ _. rw shut-test (test Good _ _ _ (λ _. calm _ (rw e) refl) (λ _. calm _ (rw e) refl))))
   items Place.A10 e own = calm _ (rw e) refl
-  items Place.A12 e own = test Good _ _ _ (λ _. stay refl (λ _. refl) (rw e) refl) (λ _. calm _ (rw e) refl)
+  items Place.A12 e own =
+      rw shut-test (test Good _ _ _ (λ _. stay refl (λ _. refl) (rw e) refl) (λ _. calm _ (rw e) refl))
   items Place.A14 e own =
-      test Good _ _ _ (λ t. let c = rw t at own in
+      rw shut-test (test Good _ _ _ (λ t. let c = rw t at own in
       record { kept = announces plan acc s I p R (goto Place.A4 (withRound 1 (job p))) refl refl (c .0) (c .1) })
-      (λ t. swaps-again e (rw t) (rw t at own))
+      (λ t. swaps-again e (rw t) (rw t at own)))
   items Place.A15 e own = record { kept = returns plan acc s I p R (goto Place.Idle (job p)) refl refl (rw e) own }
   items Place.H16 e own = calm _ (rw e) refl
   items Place.H17 e own =
-      test Good _ _ _ (λ _. calm _ (rw e) refl)
-      (λ _. test Good _ _ _ (λ _. calm _ (rw e) refl) (λ _. calm _ (rw e) refl))
+      rw shut-test (test Good _ _ _ (λ _. calm _ (rw e) refl)
+      (λ _. rw shut-test (test Good _ _ _ (λ _. calm _ (rw e) refl) (λ _. calm _ (rw e) refl))))
   items Place.H21 e own =
       begin-elim (λ a. Good (quiet (goto a (taking (sh .trans (job p .hid)) (job p)))))
       (getD (plan .updates) (sh .trans (job p .hid)) []) (calm _ (rw e) refl) (calm _ (rw e) refl)
   items (Place.Move st) e own = stages st e
   items Place.H22 e own = stay refl (λ _. refl) (rw e) refl
   items Place.H25 e own =
-      test Good _ _ _ (λ t. stay refl (decides (job p .hid) _ (undecided-is _ _ ∙ search (and-l, and-r))
+      rw shut-test (test Good _ _ _ (λ t. stay refl (decides (job p .hid) _ (undecided-is _ _ ∙ search (and-l, and-r))
       (search not-N)) (rw e) refl)
-      (λ _. calm _ (rw e) refl)
-  items Place.H32 e own = test Good _ _ _ (λ _. calm _ (rw e) refl) (λ _. calm _ (rw e) refl)
-  items Place.H34 e own = test Good _ _ _ (λ _. calm _ (rw e) refl) (λ _. calm _ (rw e) refl)
-  items Place.H36 e own = test Good _ _ _ (λ _. calm _ (rw e) refl) (λ _. calm _ (rw e) refl)
-  items Place.H37 e own = test Good _ _ _ (λ _. calm _ (rw e) refl) (λ _. calm _ (rw e) refl)
+      (λ _. calm _ (rw e) refl))
+  items Place.H32 e own = rw shut-test (test Good _ _ _ (λ _. calm _ (rw e) refl) (λ _. calm _ (rw e) refl))
+  items Place.H34 e own = rw shut-test (test Good _ _ _ (λ _. calm _ (rw e) refl) (λ _. calm _ (rw e) refl))
+  items Place.H36 e own = rw shut-test (test Good _ _ _ (λ _. calm _ (rw e) refl) (λ _. calm _ (rw e) refl))
+  items Place.H37 e own = rw shut-test (test Good _ _ _ (λ _. calm _ (rw e) refl) (λ _. calm _ (rw e) refl))
   items Place.H38 e own = calm _ (rw e) refl
   items Place.H41 e own =
-      test Good _ _ _ (λ _. store-elim (λ a. Good
-      (record { work = goto a (nextBlock (job p)); store = Store.Bank (job p .addr) (job p .new); done = true })) _
+      rw shut-test
+      (test Good _ _ _ (λ _. store-elim (λ x. Good (doing (Store.Bank (job p .addr) (job p .new)) x)) (job p)
       (stay refl (λ _. refl) (rw e) refl) (stay refl (λ _. refl) (rw e) refl))
-      (λ _. store-elim (λ a. Good (quiet (goto a (nextBlock (job p))))) _ (calm _ (rw e) refl) (calm _ (rw e) refl))
+      (λ _. store-elim (λ x. Good (quiet x)) (job p) (calm _ (rw e) refl) (calm _ (rw e) refl)))
   items Place.H42 e own =
-      test Good _ _ _ (λ _. means (job p .hid) (pos (plan .sizes .jobs)) finished _ true
+      rw shut-test (test Good _ _ _ (λ _. means (job p .hid) (pos (plan .sizes .jobs)) finished _ true
       (finished-means (plan .sizes .jobs))
       (local plan acc s₂ I₂ p (quiet (goto Place.A10 (job p))) refl (λ _. refl) (rw e) (rw e) (rw e at (I₂ .each p))))
-      (λ _. calm _ (rw e) refl)
+      (λ _. calm _ (rw e) refl))
     where
       s₂ : State
       s₂ = stating (job p .hid) finished s

@@ -11,7 +11,7 @@
 use Prim.Native.Nat.{ℕ, _+_, _≤_, _<_, _%_}
 use mathlib.Core.Path.{_≡_, refl, sym, _∙_, ap, subst, fun-ext}
 use mathlib.Core.Logic.{_≢_, inl}
-use mathlib.Core.Bool.{Bool, true, false, not, true≢false, false≢true}
+use mathlib.Core.Bool.{Bool, true, false, cond, not, true≢false, false≢true}
 use mathlib.Core.List.{List, [], _∷_}
 use native.Mathlib.Omega.{arith}
 use native.Mathlib.Nat.{mod-lt}
@@ -28,7 +28,6 @@ use Rattle.model.specs.declared.Version.{Version}
 use Rattle.model.specs.declared.Working.{Working}
 use Rattle.model.specs.declared.Store.{Store}
 use Rattle.model.specs.declared.Out.{Out}
-use Rattle.model.specs.Lists.{if_then_else_}
 use Rattle.model.specs.Places.{isActive}
 use Rattle.model.specs.Status.{same, jobNamed}
 use Rattle.model.specs.Moves.{access, afterList, move, block, offset, written, onward, begin}
@@ -44,7 +43,7 @@ use Rattle.model.specs.Working.{
   cleared,
   nextBlock,
 }
-use Rattle.model.specs.Steps.{Shared, quiet, storing, item, stage, replaced, afterDeciding}
+use Rattle.model.specs.Steps.{Shared, quiet, storing, item, stage, replaced, winner, mayCommit, afterDeciding}
 use Rattle.model.specs.Ranges.{StageOf, Inside}
 use Rattle.model.proofs.Update.{upd, upd-same, upd-other, upd-at, upd-elim}
 use Rattle.model.proofs.View.{
@@ -74,7 +73,8 @@ use Rattle.model.proofs.View.{
 }
 use Rattle.model.proofs.Sizes.{Roomy, Fits}
 use Rattle.format.proofs.Tables.{length-table}
-use Rattle.model.proofs.Tests.{test, store-elim, and-l, and-r, or-l, or-r, same-version, failed, stale}
+use Rattle.model.proofs.Tests.{choice, either, shut-test, test, store-elim, and-l, and-r}
+use Rattle.model.proofs.Tests.{or-l, or-r, same-version, failed, stale}
 use Rattle.model.proofs.SmallSteps.{
   Op,
   Op.check,
@@ -704,19 +704,19 @@ module _ (plan : Plan) (ok : Sound plan) (sh : Shared) (job : ℕ → Working)
         → Good (stage plan sh p st (job p))
     unfolding stage exec
     stages Stage.Check I o L =
-        test Good _ _ _ (λ _. let e = ahead-check plan (job p) in
+        rw shut-test (test Good _ _ _ (λ _. let e = ahead-check plan (job p) in
         steps-on Stage.Check I o L Stage.List tt check e (own-check P o e) (λ _ _. refl))
-        (λ _. clears _ refl (search) (search) refl (λ q. absurd (np q)))
+        (λ _. clears _ refl (search) (search) refl (λ q. absurd (np q))))
     stages Stage.List I o L =
         let e = ahead-list plan (job p) in
-        test Good _ _ _ (λ t. keeps-listing Stage.List I o L e t) (λ t. steps-on Stage.List I o L
+        rw shut-test (test Good _ _ _ (λ t. keeps-listing Stage.List I o L e t) (λ t. steps-on Stage.List I o L
         (afterList (access plan (job p))) (after-list (access plan (job p))) (list (block plan (job p))) e
-        (own-listed P o e (ap not t)) (λ _ _. refl))
+        (own-listed P o e (ap not t)) (λ _ _. refl)))
     stages Stage.Copy I o L =
         let e = ahead-copy plan (job p) (I .stage-of) in
         let so = after-copy (access plan (job p)) (I .stage-of) in
-        test Good _ _ _ (λ t. steps-on Stage.Copy I o L Stage.Write so (copy (block plan (job p))) e
-        (own-copied P o e t) (λ _ _. refl)) (λ t. keeps-copying Stage.Copy I o L e so t)
+        rw shut-test (test Good _ _ _ (λ t. steps-on Stage.Copy I o L Stage.Write so (copy (block plan (job p))) e
+        (own-copied P o e t) (λ _ _. refl)) (λ t. keeps-copying Stage.Copy I o L e so t))
     stages Stage.Take I o L = keeps-taking Stage.Take I o L (ahead-take plan (job p) (I .stage-of))
     stages Stage.Write I o L = keeps-writing Stage.Write I o L (ahead-write plan (job p) (I .stage-of))
 
@@ -933,13 +933,12 @@ module _ (plan : Plan) (ok : Sound plan) (sh : Shared) (job : ℕ → Working)
 
   -- The record after H41.
   abbrev j₄ : Working
-  j₄ = goto (if ltb (job p .j + 1) (job p .numblks) then Place.H36 else Place.H42) (nextBlock (job p))
+  j₄ = goto (cond (ltb (job p .j + 1) (job p .numblks)) Place.H36 Place.H42) (nextBlock (job p))
 
   -- A decider stays past its deciding.
   past₄ : Past v (job p) → Past v j₄
   past₄ =
-      store-elim (λ a. Past v (job p) → Past v (goto a (nextBlock (job p)))) _ (past-on _ refl refl tt)
-      (past-on _ refl refl tt)
+      store-elim (λ x. Past v (job p) → Past v x) (job p) (past-on _ refl refl tt) (past-on _ refl refl tt)
 
   -- Its clauses, from those at the next line.
   loc₄ :
@@ -948,7 +947,7 @@ module _ (plan : Plan) (ok : Sound plan) (sh : Shared) (job : ℕ → Working)
       → (job p .j < sh′ .numblks (winnerOf (job p))) × (job p .numblks ≡ sh′ .numblks (winnerOf (job p))) × PutOk plan
       sh′ g′ J′ (winnerOf (job p)) (job p .j + 1)) → JobContents plan sh′ g′ J′ p j₄
   loc₄ sh′ g′ J′ c K =
-      test (λ a. JobContents plan sh′ g′ J′ p (goto a (nextBlock (job p)))) _ _ _
+      rw shut-test (test (λ a. JobContents plan sh′ g′ J′ p (goto a (nextBlock (job p)))) _ _ _
       (λ t. record {
         roomy = roomy-as _ refl refl refl;
         own = c;
@@ -960,7 +959,7 @@ module _ (plan : Plan) (ok : Sound plan) (sh : Shared) (job : ℕ → Working)
         roomy = roomy-as _ refl refl refl;
         own = c;
         fresh = λ z f. let k = K z f in next-line sh′ g′ J′ false t (k .0) (k .1) (k .2);
-      })
+      }))
 
   -- H41 done.
   keeps-H41 :
@@ -1047,24 +1046,24 @@ module _ (plan : Plan) (ok : Sound plan) (sh : Shared) (job : ℕ → Working)
       keeps-A2 (rw e) c _ refl (λ q. absurd (rw e at (q .past)))
       (plain-contents _ _ _ _ (roomy-as _ refl refl refl) own refl)
   items Place.A4 e c fl guard fk own sk =
-      test Good _ _ _ (λ _. rests _ refl refl refl refl own (λ q. absurd (rw e at (q .past))))
-      (λ _. rests _ refl refl refl refl own (λ q. absurd (rw e at (q .past))))
-  items Place.A7 e c fl guard fk own sk =
-      test Good _ _ _ (λ _. rests _ refl refl refl refl own (λ q. absurd (rw e at (q .past))))
-      (λ _. test Good _ _ _ (λ _. rests _ refl refl refl refl own (λ q. absurd (rw e at (q .past))))
+      rw shut-test (test Good _ _ _ (λ _. rests _ refl refl refl refl own (λ q. absurd (rw e at (q .past))))
       (λ _. rests _ refl refl refl refl own (λ q. absurd (rw e at (q .past)))))
+  items Place.A7 e c fl guard fk own sk =
+      rw shut-test (test Good _ _ _ (λ _. rests _ refl refl refl refl own (λ q. absurd (rw e at (q .past))))
+      (λ _. either Good (sh .v .flag) _ _ (rests _ refl refl refl refl own (λ q. absurd (rw e at (q .past))))
+      (rests _ refl refl refl refl own (λ q. absurd (rw e at (q .past))))))
   items Place.A10 e c fl guard fk own sk = rests _ refl refl refl refl own (past-on _ refl refl tt)
   items Place.A12 e c fl guard fk own sk =
-      test Good _ _ _ (λ t. let ev : job p .ver ≡ v = same-version v (job p .ver) (search) in
+      rw shut-test (test Good _ _ _ (λ t. let ev : job p .ver ≡ v = same-version v (job p .ver) (search) in
       record {
         kept =
             keeps-turn plan s D g E p (record { count = job p .ver .count + 1; flag = job p .next })
             (goto Place.A7 (job p)) (ap (λ (x : Version). x .count + 1) (sym ev)) refl
             (plain-contents _ _ _ _ (roomy-as _ refl refl refl) own refl) (fk ev);
         fits = tt;
-      }) (λ t. rests _ refl refl refl refl own (λ q. absurd (stale v (job p .ver) (search) (q .fresh))))
+      }) (λ t. rests _ refl refl refl refl own (λ q. absurd (stale v (job p .ver) (search) (q .fresh)))))
   items Place.A14 e c fl guard fk own sk =
-      test Good _ _ _
+      choice Good (eqb (job p .round) 0) _ _
       (λ t. keeps-announcement guard p _ refl (λ q. absurd (rw e at (q .past)))
       (plain-contents _ _ _ _ (roomy-as _ refl refl refl) own refl))
       (λ t. keeps-announcement guard p _ refl (λ q. absurd (rw e at (q .past)))
@@ -1074,28 +1073,30 @@ module _ (plan : Plan) (ok : Sound plan) (sh : Shared) (job : ℕ → Working)
       (plain-contents _ _ _ _ (roomy-as _ refl refl refl) own refl)
   items Place.H16 e c fl guard fk own sk = rests _ refl refl refl refl own (λ q. absurd (rw e at (q .past)))
   items Place.H17 e c fl guard fk own sk =
-      test Good _ _ _ (λ _. rests _ refl refl refl refl own (λ q. absurd (rw e at (q .past))))
-      (λ _. test Good _ _ _ (λ _. rests _ refl refl refl refl own (λ q. absurd (rw e at (q .past))))
-      (λ _. rests _ refl refl refl refl own (λ q. absurd (rw e at (q .past)))))
+      rw shut-test (test Good _ _ _ (λ _. rests _ refl refl refl refl own (λ q. absurd (rw e at (q .past))))
+      (λ _. either Good (same (sh .stat (job p .hid)) (negsuc 0)) _ _
+      (rests _ refl refl refl refl own (λ q. absurd (rw e at (q .past))))
+      (rests _ refl refl refl refl own (λ q. absurd (rw e at (q .past))))))
   items Place.H21 e c fl guard fk own sk = keeps-H21 (λ q. rw e at (q .past)) own fk
   items (Place.Move st) e c fl guard fk own sk = stages (λ q. rw e at (q .past)) st (own .0) (own .1) sk
   items Place.H22 e c fl guard fk own sk =
       keeps-H22 (λ q. rw e at (q .past)) _ refl refl (search) refl refl refl refl own sk
   items Place.H25 e c fl guard fk own sk =
-      test Good _ _ _ (λ t. let ev : job p .ver ≡ v = same-version v (job p .ver) (search (and-l, and-r)) in
+      rw shut-test
+      (test Good _ _ _ (λ t. let ev : job p .ver ≡ v = same-version v (job p .ver) (search (and-l, and-r)) in
       let f : v .flag ≡ true = sym (ap (λ (x : Version). x .flag) ev) ∙ fl in
       let u : same (sh .stat (job p .hid)) (negsuc 0) ≡ true = search (and-l, and-r) in
       keeps-H25 (λ q. rw e at (q .past)) _ _ ev (undecided-is _ _ ∙ u) (fk ev f) (sk ev f) refl
       (record { up = refl; fresh = ev; past = tt })
       (search) refl reclaims-copies decided-by-p tt)
-      (λ _. clears _ refl (search) (search) refl (λ q. absurd (rw e at (q .past))))
+      (λ _. clears _ refl (search) (search) refl (λ q. absurd (rw e at (q .past)))))
   items Place.H32 e c fl guard fk own sk =
-      test Good _ _ _ (λ _. rests _ refl refl refl refl own (past-on _ refl refl tt))
+      rw shut-test (test Good _ _ _ (λ _. rests _ refl refl refl refl own (past-on _ refl refl tt))
       (λ t. keeps-H32 _ refl refl (roomy-as _ refl refl refl) own (past-on _ refl refl tt)
       (λ z f. ap stat (sym (fk z f .0)) ∙ decided-else (plan .sizes .jobs) (sh .stat (job p .hid))
-      (search (or-l, or-r)) (search (or-l, or-r))))
+      (search (or-l, or-r)) (search (or-l, or-r)))))
   items Place.H34 e c fl guard fk own sk =
-      test Good _ _ _ (λ t. still _ refl (past-on _ refl refl tt)
+      choice Good (eqb (sh .numblks (winner plan sh p (job p))) 0) _ _ (λ t. still _ refl (past-on _ refl refl tt)
       (record {
         roomy = roomy-as _ refl refl refl;
         own = own;
@@ -1114,11 +1115,11 @@ module _ (plan : Plan) (ok : Sound plan) (sh : Shared) (job : ℕ → Working)
             };
       }))
   items Place.H36 e c fl guard fk own sk =
-      test Good _ _ _ (λ _. rests _ refl refl refl refl own (past-on _ refl refl tt))
-      (λ _. on-row Place.H37 refl refl tt own sk)
+      rw shut-test (test Good _ _ _ (λ _. rests _ refl refl refl refl own (past-on _ refl refl tt))
+      (λ _. on-row Place.H37 refl refl tt own sk))
   items Place.H37 e c fl guard fk own sk =
-      test Good _ _ _ (λ _. rests _ refl refl refl refl own (past-on _ refl refl tt))
-      (λ _. on-row Place.H38 refl refl tt own sk)
+      rw shut-test (test Good _ _ _ (λ _. rests _ refl refl refl refl own (past-on _ refl refl tt))
+      (λ _. on-row Place.H38 refl refl tt own sk))
   items Place.H38 e c fl guard fk own sk =
       still _ refl (past-on _ refl refl tt) (record {
         roomy = roomy-as _ refl refl refl;
@@ -1130,12 +1131,14 @@ module _ (plan : Plan) (ok : Sound plan) (sh : Shared) (job : ℕ → Working)
             );
       })
   items Place.H41 e c fl guard fk own sk =
-      test Good _ _ _ (λ t. let ev : job p .ver ≡ v = same-version v (job p .ver) (search (and-l, and-r)) in
+      rw shut-test
+      (test Good _ _ _ (λ t. let ev : job p .ver ≡ v = same-version v (job p .ver) (search (and-l, and-r)) in
       let f : v .flag ≡ true = sym (ap (λ (x : Version). x .flag) ev) ∙ fl .0 in
       keeps-H41 own f (sk ev f .0) (sk ev f .1))
-      (λ t. skips-H41 own sk (λ z. search failed))
+      (λ t. skips-H41 own sk (λ z. search failed)))
   items Place.H42 e c fl guard fk own sk =
-      test Good _ _ _ (λ t. let ev : job p .ver ≡ v = same-version v (job p .ver) (search (and-l, and-r)) in
+      choice Good (mayCommit plan sh p (job p)) _ _
+      (λ t. let ev : job p .ver ≡ v = same-version v (job p .ver) (search (and-l, and-r)) in
       let f : v .flag ≡ true = sym (ap (λ (x : Version). x .flag) ev) ∙ fl .0 in
       let eq : job p .hid ≡ h = fk ev f .0 in
       let w : same (sh .stat (job p .hid)) (job p .wid) ≡ true = search (and-l, and-r) in

@@ -6,7 +6,7 @@
 -- say what demand 3 says (Answer.antt). The first entries of a list are a list, so this is so at the start and after
 -- each entry up to the first refused one, that one included.
 --
--- The length of the list is not used: the theorem holds of longer lists than a schedule can have.
+-- The length of the list is not used: the theorem holds of longer lists than a schedule can have. Assumes nothing.
 use Prim.Native.Nat.{ℕ, _<_}
 use mathlib.Core.Path.{_≡_, subst}
 use mathlib.Core.Bool.{false}

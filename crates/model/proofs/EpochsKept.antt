@@ -34,7 +34,7 @@ use Rattle.model.specs.declared.Store.{Store}
 use Rattle.model.specs.declared.Out.{Out}
 use Rattle.model.specs.Status.{same, jobNamed}
 use Rattle.model.specs.Moves.{block, offset, move, written}
-use Rattle.model.specs.Working.{goto, called, withWid, taking, withWord, nextBlock}
+use Rattle.model.specs.Working.{goto, called, withWid, taking, withWord}
 use Rattle.model.specs.Steps.{Shared, quiet, storing, doing, nextHelped, item, stage}
 use Rattle.model.proofs.Update.{upd, upd-other, upd-at, upd-elim}
 use Rattle.model.proofs.View.{
@@ -64,6 +64,7 @@ use Rattle.model.proofs.View.{
 }
 use Rattle.model.proofs.SmallSteps.{Layout, layout}
 use Rattle.model.proofs.Tests.{
+  shut-test,
   test,
   onward-elim,
   store-elim,
@@ -538,14 +539,14 @@ module _ (plan : Plan) (acc : Accepted (layout plan)) (sh : Shared) (job : ℕ �
       → (job p .ver ≡ v → v .flag ≡ true → job p .hid ≡ head) → Good (stage plan sh p st (job p))
   unfolding stage
   stages Stage.Check e fl fr =
-      test Good _ _ _ (λ _. loops refl (rw e) refl refl fl fr (λ _. tt))
-      (λ t. loops refl (rw e) refl refl fl (λ z f. passes (search failed) (fr z f)) (λ _. tt))
+      rw shut-test (test Good _ _ _ (λ _. loops refl (rw e) refl refl fl fr (λ _. tt))
+      (λ t. loops refl (rw e) refl refl fl (λ z f. passes (search failed) (fr z f)) (λ _. tt)))
   stages Stage.List e fl fr =
-      test Good _ _ _ (λ _. loops refl (rw e) refl refl fl fr (λ _. tt))
-      (λ _. loops refl (rw e) refl refl fl fr (λ _. tt))
+      rw shut-test (test Good _ _ _ (λ _. loops refl (rw e) refl refl fl fr (λ _. tt))
+      (λ _. loops refl (rw e) refl refl fl fr (λ _. tt)))
   stages Stage.Copy e fl fr =
-      test Good _ _ _ (λ _. loops refl (rw e) refl refl fl fr (λ _. tt))
-      (λ _. loops refl (rw e) refl refl fl fr (λ _. tt))
+      rw shut-test (test Good _ _ _ (λ _. loops refl (rw e) refl refl fl fr (λ _. tt))
+      (λ _. loops refl (rw e) refl refl fl fr (λ _. tt)))
   stages Stage.Take e fl fr =
       onward-elim (λ x. Good (quiet x)) plan
       (withWord (sh .blk (getD (job p .curr) (block plan (job p)) 0) (offset plan (job p))) (job p))
@@ -576,16 +577,16 @@ module _ (plan : Plan) (acc : Accepted (layout plan)) (sh : Shared) (job : ℕ �
       means p (negsuc 0) undecided _ false (undecided-means (plan .sizes .jobs))
       (arms (rw e) c _ (outside refl (D .each p .old) tt))
   items Place.A4 e c fl guard fr mv =
-      test Good _ _ _
+      rw shut-test (test Good _ _ _
       (λ t. steps refl (outside refl (D .each p .old) (λ f d _. D .whole .named f (ap ann (sym d) ∙ eqb-true _ _ t))))
-      (λ _. steps refl (outside refl (D .each p .old) (guard-look (second (job p)))))
+      (λ _. steps refl (outside refl (D .each p .old) (guard-look (second (job p))))))
   items Place.A7 e c fl guard fr mv =
-      test Good _ _ _
+      rw shut-test (test Good _ _ _
       (λ t.
       let away : (not (eqb pointed (P .card p)) || not (v .flag)) ≡ true = search (and-l, and-r) in
       steps refl (outside refl (le-refl _) (λ f d _. elsewhere pointed (P .card p) (v .flag) away f d)))
       (λ _.
-      test Good _ _ _
+      rw shut-test (test Good _ _ _
       (λ t. steps refl (record { old = le-refl _; flag = t; guard = guard; fresh = λ _ _. tt; mover = λ _. tt }))
       (λ t.
       steps refl
@@ -595,7 +596,7 @@ module _ (plan : Plan) (acc : Accepted (layout plan)) (sh : Shared) (job : ℕ �
         guard = guard;
         fresh = λ _ f. absurd (true≢false (sym f ∙ t));
         mover = λ _. tt;
-      })))
+      })))))
   items Place.A10 e c fl guard fr mv =
       loops refl (rw e) refl refl tt fr
       (λ z t.
@@ -603,21 +604,21 @@ module _ (plan : Plan) (acc : Accepted (layout plan)) (sh : Shared) (job : ℕ �
       let pending : not (same found (pos (P .jobs))) ≡ true = search (and-l, and-r) in
       (ap (λ x. ann ((x .count + 1) % P .cards)) (sym z), finished-is _ _ ∙ not-true _ pending))
   items Place.A12 e c fl guard fr mv =
-      test Good _ _ _
+      rw shut-test (test Good _ _ _
       (λ t.
       let ev : job p .ver ≡ v = same-version v (job p .ver) (search) in
       record {
         kept = turns (job p .next) (fr ev) (λ n. rw (mv ev n .0) (mv ev n .1)) _ refl (rw e) refl ev;
       })
-      (λ _. loops refl (rw e) refl refl tt (λ _ _. tt) (λ _. tt))
+      (λ _. loops refl (rw e) refl refl tt (λ _ _. tt) (λ _. tt)))
   items Place.A14 e c fl guard fr mv =
-      test Good _ _ _
+      rw shut-test (test Good _ _ _
       (λ _. record { kept = announces guard shut p _ (outside refl (D .each p .old) tt) })
       (λ _.
       record {
         kept = announces guard shut p _ (outside refl (D .each p .old)
             (λ f d _. guard f d (chief-under P s C D p R f d)));
-      })
+      }))
     where
       shut : (a : ℕ) → ann (P .card p) ≡ a → a ≢ P .jobs → isFinished (stat a) ≡ false → P .prio a ≤ P .prio p → ⊥
       shut a ea na fa pr = above p a ea na fa pr (job p .lid) (swap (second (job p))) (rw e) c
@@ -630,10 +631,10 @@ module _ (plan : Plan) (acc : Accepted (layout plan)) (sh : Shared) (job : ℕ �
   items Place.H16 e c fl guard fr mv =
       loops refl (rw e) refl refl fl (λ z _. ap (λ x. ann (x .count % P .cards)) z) (λ _. tt)
   items Place.H17 e c fl guard fr mv =
-      test Good _ _ _ (λ t. loops refl (rw e) refl refl tt (λ z f. finds t (fr z f)) (λ _. tt))
+      rw shut-test (test Good _ _ _ (λ t. loops refl (rw e) refl refl tt (λ z f. finds t (fr z f)) (λ _. tt))
       (λ _.
-      test Good _ _ _ (λ _. loops refl (rw e) refl refl fl fr (λ _. tt))
-      (λ t. loops refl (rw e) refl refl fl (λ z f. passes t (fr z f)) (λ _. tt)))
+      rw shut-test (test Good _ _ _ (λ _. loops refl (rw e) refl refl fl fr (λ _. tt))
+      (λ t. loops refl (rw e) refl refl fl (λ z f. passes t (fr z f)) (λ _. tt)))))
   items Place.H21 e c fl guard fr mv =
       begin-elim (λ a. Good (quiet (goto a (taking (sh .trans (job p .hid)) (job p)))))
       (getD (plan .updates) (sh .trans (job p .hid)) [])
@@ -642,45 +643,45 @@ module _ (plan : Plan) (acc : Accepted (layout plan)) (sh : Shared) (job : ℕ �
   items (Place.Move st) e c fl guard fr mv = stages st e fl fr
   items Place.H22 e c fl guard fr mv = loops refl (rw e) refl refl fl fr (λ _. tt)
   items Place.H25 e c fl guard fr mv =
-      test Good _ _ _
+      rw shut-test (test Good _ _ _
       (λ t.
       let ev : job p .ver ≡ v = same-version v (job p .ver) (search (and-l, and-r)) in
       let und : isUndecided (stat (job p .hid)) ≡ true = undecided-is _ _ ∙ search (and-l, and-r) in
       let f : v .flag ≡ true = sym (ap (λ x. x .flag) ev) ∙ fl in
       decides _ refl (rw e) refl ev f (fr ev f) und)
-      (λ t. loops refl (rw e) refl refl fl (λ z f. passes (search failed) (fr z f)) (λ _. tt))
+      (λ t. loops refl (rw e) refl refl fl (λ z f. passes (search failed) (fr z f)) (λ _. tt)))
   items Place.H32 e c fl guard fr mv =
-      test Good _ _ _
+      rw shut-test (test Good _ _ _
       (λ t. loops refl (rw e) refl refl tt (λ z f. settled t (fr z f .0) (fr z f .1)) (λ _. tt))
       (λ t.
       let n : Widened (P .jobs) (goto Place.H34 (withWid helped (job p))) = takes t in
       loops refl (rw e) refl refl (fl, n)
       (λ z f. (fr z f .0, inl (ap stat (sym (fr z f .0)) ∙ wid-means (P .jobs) _ _ n refl)))
-      (λ _. tt))
+      (λ _. tt)))
   items Place.H34 e c fl guard fr mv =
-      test Good _ _ _ (λ _. loops refl (rw e) refl refl (fl .0, still-widened refl (fl .1)) fr (λ _. tt))
-      (λ _. loops refl (rw e) refl refl (fl .0, still-widened refl (fl .1)) fr (λ _. tt))
+      rw shut-test (test Good _ _ _ (λ _. loops refl (rw e) refl refl (fl .0, still-widened refl (fl .1)) fr (λ _. tt))
+      (λ _. loops refl (rw e) refl refl (fl .0, still-widened refl (fl .1)) fr (λ _. tt)))
   items Place.H36 e c fl guard fr mv =
-      test Good _ _ _
+      rw shut-test (test Good _ _ _
       (λ t. loops refl (rw e) refl refl tt (λ z _. absurd (stale v (job p .ver) (not-true _ t) z)) (λ _. tt))
-      (λ _. loops refl (rw e) refl refl (fl .0, still-widened refl (fl .1)) fr (λ _. tt))
+      (λ _. loops refl (rw e) refl refl (fl .0, still-widened refl (fl .1)) fr (λ _. tt)))
   items Place.H37 e c fl guard fr mv =
-      test Good _ _ _ (λ t. loops refl (rw e) refl refl tt (λ z f. finds t (fr z f .0)) (λ _. tt))
-      (λ _. loops refl (rw e) refl refl (fl .0, still-widened refl (fl .1)) fr (λ _. tt))
+      rw shut-test (test Good _ _ _ (λ t. loops refl (rw e) refl refl tt (λ z f. finds t (fr z f .0)) (λ _. tt))
+      (λ _. loops refl (rw e) refl refl (fl .0, still-widened refl (fl .1)) fr (λ _. tt)))
   items Place.H38 e c fl guard fr mv =
       loops refl (rw e) refl refl (fl .0, still-widened refl (fl .1)) fr (λ _. tt)
   items Place.H41 e c fl guard fr mv =
-      test Good _ _ _
+      rw shut-test (test Good _ _ _
       (λ _.
-      store-elim (λ a. Good (doing (Store.Bank (job p .addr) (job p .new)) (goto a (nextBlock (job p))))) _
+      store-elim (λ x. Good (doing (Store.Bank (job p .addr) (job p .new)) x)) (job p)
       (loops refl (rw e) refl refl (fl .0, still-widened refl (fl .1)) fr (λ _. tt))
       (loops refl (rw e) refl refl (fl .0, still-widened refl (fl .1)) fr (λ _. tt)))
       (λ _.
-      store-elim (λ a. Good (quiet (goto a (nextBlock (job p))))) _
+      store-elim (λ x. Good (quiet x)) (job p)
       (loops refl (rw e) refl refl (fl .0, still-widened refl (fl .1)) fr (λ _. tt))
-      (loops refl (rw e) refl refl (fl .0, still-widened refl (fl .1)) fr (λ _. tt)))
+      (loops refl (rw e) refl refl (fl .0, still-widened refl (fl .1)) fr (λ _. tt))))
   items Place.H42 e c fl guard fr mv =
-      test Good _ _ _
+      rw shut-test (test Good _ _ _
       (λ t.
       let ev : job p .ver ≡ v = same-version v (job p .ver) (search (and-l, and-r)) in
       let is : helped ≡ job p .wid = same-true _ _ (search (and-l, and-r)) in
@@ -690,7 +691,7 @@ module _ (plan : Plan) (acc : Accepted (layout plan)) (sh : Shared) (job : ℕ �
       loops refl (rw e) refl refl tt
       (λ z f.
       committed (fl .1) (search failed) (fr z f .0) (fr z f .1))
-      (λ _. tt))
+      (λ _. tt)))
 
   -- The item that p stands before keeps the layer.
   pub epochs-kept : EpochsHold P (after plan p (item plan sh p (job p .place) (job p)) s)

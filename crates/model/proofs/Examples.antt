@@ -16,7 +16,6 @@ use Rattle.format.specs.Plan.{Plan, written}
 use Rattle.format.specs.Kinds.{kindOf}
 use Rattle.format.specs.Items.{recordOf}
 use Rattle.format.specs.Reading.{reading, accepted}
-use Rattle.model.specs.Lists.{if_then_else_}
 use Rattle.model.specs.Memory.{afterUpdate, memory, movesOf}
 use Rattle.model.specs.Steps.{sameVersion, stage, item}
 use Rattle.model.specs.Machine.{openingOf, stored, carriedOut, itemOf, seen}
@@ -124,7 +123,7 @@ pub half-way :
       memory = 5 ∷ 6 ∷ 7 ∷ 8 ∷ [];
       with-update = 8 ∷ 6 ∷ 9 ∷ 8 ∷ [];
     }
-unfolding runOf begun entered judge acted openingOf carriedOut itemOf stored item stage sameVersion if_then_else_
+unfolding runOf begun entered judge acted openingOf carriedOut itemOf stored item stage sameVersion
     memory afterUpdate
 half-way = refl
 
@@ -134,5 +133,5 @@ overtaking = call 0 1 ∷ replicate 4 (step 0) ++ (call 1 1 ∷ replicate 28 (st
 
 -- The bound on those that pass a call is reached: card 1 has passed the pending call 1 once.
 pub passed-once : length (passing threeCards overtaking (runOf threeCards overtaking .history) 1 1) ≡ 1
-unfolding runOf begun entered judge acted openingOf carriedOut itemOf stored item stage sameVersion if_then_else_
+unfolding runOf begun entered judge acted openingOf carriedOut itemOf stored item stage sameVersion
 passed-once = refl

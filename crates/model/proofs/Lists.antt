@@ -33,7 +33,8 @@ use Rattle.model.specs.declared.Refusal.{Refusal}
 use Rattle.model.specs.declared.Judgement.{Judgement}
 use Rattle.model.specs.Places.{isActive}
 use Rattle.model.specs.Working.{noWork, opening, called}
-use Rattle.model.specs.Steps.{inFirstPlaces, item}
+use Rattle.text.specs.FirstPlaces.{inFirstPlaces}
+use Rattle.model.specs.Steps.{item}
 use Rattle.model.specs.Machine as machine
 use Rattle.model.specs.Machine.{
   Machine,

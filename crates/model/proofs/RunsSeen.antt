@@ -10,13 +10,13 @@
 -- listing order.
 use Prim.Native.Nat.{ℕ, zero, suc, _+_, _/_, _%_, _≤_, _<_}
 use mathlib.Core.Path.{_≡_, refl, sym, _∙_, ap, fun-ext}
-use mathlib.Core.Bool.{Bool, false, not}
+use mathlib.Core.Bool.{Bool, false, cond, not}
 use mathlib.Core.List.{List, [], _∷_, _++_, map, map-append, append-assoc}
 use native.Mathlib.Omega.{arith}
 use native.Mathlib.Numerals.{add-one}
 use lib.Dec.{eqb}
 use lib.ListN.{length, getD, set, drop, length-set, drop-of-length-le, length-map}
-use lib.Seq.{drop-cons, drop-nil}
+use lib.Seq.{drop-cons}
 use borrow.Author.Tests.{ltb-true, ltb-false}
 use Rattle.text.proofs.Cases.{by-test}
 use Rattle.format.specs.declared.Move.{Move}
@@ -25,7 +25,7 @@ use Rattle.format.proofs.Tables.{table-more}
 use Rattle.model.specs.declared.Stage.{Stage}
 use Rattle.model.specs.declared.Place.{Place}
 use Rattle.model.specs.declared.Working.{Working}
-use Rattle.model.specs.Lists.{if_then_else_, select}
+use Rattle.model.specs.Lists.{select}
 use Rattle.model.specs.Moves.{
   Access,
   read,
@@ -42,16 +42,17 @@ use Rattle.model.specs.Moves.{
   onward,
 }
 use Rattle.model.specs.Working.{goto, taking, withAccess, listing, copying, cleared}
-use Rattle.model.specs.Steps.{replaced, inFirstPlaces}
+use Rattle.text.specs.FirstPlaces.{inFirstPlaces}
+use Rattle.model.specs.Steps.{replaced}
 use Rattle.model.proofs.Update.{upd, upd-same, upd-other, upd-id, upd-ap}
-use Rattle.model.proofs.Arrays.{getD-set, getD-all}
+use Rattle.model.proofs.Arrays.{getD-set, getD-all, first-places-at}
 use Rattle.model.proofs.Sizes.{Roomy}
 use Rattle.model.proofs.SmallSteps.{Op, ofStage, ofAccesses, ofMoves, ahead, attempt, copyOf, Layout, layout}
 use Rattle.model.proofs.Attempts.{lists, copies, Shape, newCopies}
 use Rattle.model.proofs.Running.{Begun}
 use Rattle.model.specs.Ranges.{StageOf, Inside}
 use Rattle.model.proofs.Contents.{Clear}
-use Rattle.model.proofs.Tests.{test}
+use Rattle.model.proofs.Tests.{shut-test, test}
 
 -- What is left to do behind the read or write that a job is at.
 unfoldable pub rest : Plan → Working → List Op
@@ -207,11 +208,11 @@ pub onward-rest :
     → ((m a : ℕ) → rest plan w ≡ [] → Q (goto Place.H22 (withAccess m a w))) → Q (onward plan w)
 unfolding ahead rest
 onward-rest Q plan w hm _ f g =
-    test Q _ _ _ (λ t. same-move (ltb-true _ _ t))
+    rw shut-test (test Q _ _ _ (λ t. same-move (ltb-true _ _ t))
     (λ t.
-    test (λ a. Q (goto a (withAccess (w .index + 1) 0 w))) _ _ _
+    rw shut-test (test (λ a. Q (goto a (withAccess (w .index + 1) 0 w))) _ _ _
     (λ u. next-move (ltb-false _ _ t) (ltb-true _ _ u))
-    (λ u. g (w .index + 1) 0 (rest-nothing plan w (ltb-false _ _ t) (ltb-false _ _ u))))
+    (λ u. g (w .index + 1) 0 (rest-nothing plan w (ltb-false _ _ t) (ltb-false _ _ u))))))
   where
     same-move : w .access + 1 < length (accesses (move plan w))
         → Q (goto (Place.Move Stage.Check) (withAccess (w .index) (w .access + 1) w))
@@ -361,10 +362,9 @@ select-append {A} f (x ∷ xs) ys =
 replaced-is :
     (addr old bank : ℕ → ℕ) (dirty : List ℕ) (n : ℕ) → ((i : ℕ) → i < n → old i ≡ bank (addr i))
     → replaced addr old dirty n ≡ map bank (select (λ b. eqb (getD dirty b 0) 2) (table n addr))
-unfolding if_then_else_
 replaced-is addr old bank dirty zero h = refl
 replaced-is addr old bank dirty (suc n) h =
-    ap (λ (l : List ℕ). l ++ (if wrote (addr n) then (old n ∷ []) else []))
+    ap (λ (l : List ℕ). l ++ cond (wrote (addr n)) (old n ∷ []) [])
     (replaced-is addr old bank dirty n (λ i l. h i (omega arith)))
     ∙ ap (λ (l : List ℕ). map bank (select wrote (table n addr)) ++ l) last
     ∙ sym (map-append bank (select wrote (table n addr)) (select wrote (addr n ∷ [])))
@@ -373,19 +373,9 @@ replaced-is addr old bank dirty (suc n) h =
     wrote : ℕ → Bool
     wrote b = eqb (getD dirty b 0) 2
 
-    last : (if wrote (addr n) then (old n ∷ []) else []) ≡ map bank (select wrote (addr n ∷ []))
+    last : cond (wrote (addr n)) (old n ∷ []) [] ≡ map bank (select wrote (addr n ∷ []))
     last = by-test (wrote (addr n)) (λ t. rw t (ap (λ (x : ℕ). x ∷ []) (h n (omega arith)))) (λ t. rw t)
 
--- Numbers in the first places of a list, read at a place: the number there, else what the list has.
-first-places-at :
-    (ns list : List ℕ) (i : ℕ) → getD (inFirstPlaces ns list) i 0 ≡ getD ns i (getD list i 0)
-first-places-at [] list i = refl
-first-places-at (n ∷ ns) list zero = refl
-first-places-at (n ∷ ns) [] (suc i) =
-    ap (λ (l : List ℕ). getD (ns ++ l) i 0) (sym (drop-nil (length ns))) ∙ first-places-at ns [] i
-first-places-at (n ∷ ns) (x ∷ list) (suc i) = first-places-at ns list i
-
--- The copy list of H25, where the row's old numbers are the bank's: in its first places the bank's numbers of the
 -- As many numbers are replaced as listed blocks are written.
 pub length-replaced :
     (addr old : ℕ → ℕ) (bank : ℕ → ℕ) (w : Working) → ((i : ℕ) → i < w .numblks → old i ≡ bank (addr i))
@@ -395,6 +385,7 @@ length-replaced addr old bank w h =
     ap length (replaced-is addr old bank (w .dirty) (w .numblks) h)
     ∙ length-map (select (attempt [] addr w .wrote) (attempt [] addr w .order)) bank
 
+-- The copy list of H25, where the row's old numbers are the bank's: in its first places the bank's numbers of the
 -- written blocks, in listing order.
 pub copy-reclaimed :
     (addr old : ℕ → ℕ) (bank : ℕ → ℕ) (w : Working) → ((i : ℕ) → i < w .numblks → old i ≡ bank (addr i)) → (i : ℕ)

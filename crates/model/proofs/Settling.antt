@@ -22,6 +22,7 @@ use lib.ListN.{length, getD, List·getD-eq-default, length-map}
 use borrow.Author.Tests.{eqb-true, eq-eqb}
 use Rattle.format.specs.Plan.{isIn}
 use Rattle.model.specs.Lists.{select}
+use Rattle.model.proofs.Tests.{or-r}
 use Rattle.model.proofs.Update.{upd, upd-same, upd-at, upd-other, upd-elim}
 use Rattle.model.proofs.SmallSteps.{Blocks, exec, Op, Attempt, Layout}
 use Rattle.model.proofs.Attempts.{
@@ -47,11 +48,6 @@ or-left false b e = absurd (false≢true e)
 or-right : (a b : Bool) → b ≡ true → (a || b) ≡ true
 or-right true b e = refl
 or-right false b e = e
-
--- Where a disjunction fails, its right half does.
-neither : (a b : Bool) → (a || b) ≡ false → b ≡ false
-neither true b e = absurd (true≢false e)
-neither false b e = e
 
 -- What stands at a place of a list is in the list.
 pub listed-at : (ks : List ℕ) (i : ℕ) → i < length ks → isIn (getD ks i 0) ks ≡ true
@@ -103,7 +99,7 @@ selected-at w (x ∷ xs) i h = go (w x) refl i h (selected-at w xs)
 -- What is not in a list is not selected from it.
 pub not-selected : (w : ℕ → Bool) (ks : List ℕ) (k : ℕ) → isIn k ks ≡ false → isIn k (select w ks) ≡ false
 not-selected w [] k e = refl
-not-selected w (x ∷ xs) k e = go (w x) (eqb x k) refl (not-selected w xs k (neither (eqb x k) (isIn k xs) e))
+not-selected w (x ∷ xs) k e = go (w x) (eqb x k) refl (not-selected w xs k (or-r (eqb x k) (isIn k xs) e))
   where
     go : (b c : Bool) → eqb x k ≡ c → isIn k (select w xs) ≡ false
         → isIn k (cond b (x ∷ select w xs) (select w xs)) ≡ false

@@ -2,9 +2,9 @@
 -- of a row; and what a test says. Assumes nothing.
 use Prim.Native.Nat.{ℕ, _+_}
 use mathlib.Core.Path.{_≡_, refl, sym, _∙_}
-use mathlib.Core.Bool.{Bool, true, false, _&&_, _||_, true≢false, false≢true}
+use mathlib.Core.Bool.{Bool, true, false, cond, _&&_, _||_, true≢false, false≢true}
 use mathlib.Core.List.{List, [], _∷_}
-use lib.Dec.{eqb}
+use lib.Dec.{eqb, ltb}
 use borrow.Author.Tests.{eq-eqb, eqb-true}
 use Rattle.text.proofs.Cases.{both, neither}
 use Rattle.format.specs.declared.Move.{Move}
@@ -13,29 +13,50 @@ use Rattle.model.specs.declared.Stage.{Stage}
 use Rattle.model.specs.declared.Place.{Place}
 use Rattle.model.specs.declared.Version.{Version}
 use Rattle.model.specs.declared.Working.{Working}
-use Rattle.model.specs.Lists.{if_then_else_}
 use Rattle.model.specs.Moves.{begin, onward}
-use Rattle.model.specs.Working.{goto, withAccess}
+use Rattle.model.specs.Working.{goto, withAccess, nextBlock}
 use Rattle.model.specs.Steps.{sameFlag, sameVersion}
 
 -- A choice by a test keeps the test's answer.
+pub choice : {A : Type 0} (Q : A → Type 0) (b : Bool) (x y : A) → (b ≡ true → Q x) → (b ≡ false → Q y)
+    → Q (cond b x y)
+choice Q true x y f g = f refl
+choice Q false x y f g = g refl
+
+-- What holds of both answers holds of the one that a test gives.
+pub either : {A : Type 0} (Q : A → Type 0) (b : Bool) (x y : A) → Q x → Q y → Q (cond b x y)
+either Q b x y f g = choice Q b x y (λ _. f) (λ _. g)
+
+-- A test that is not computed with. `cond` computes, so that antt cannot read its test off a goal: where the test is
+-- to be found and not written, the goal is first rewritten by `shut-test`.
+pub shut : Bool → Bool
+shut b = b
+
+-- A choice by a test is the choice by the same test, shut.
+pub shut-test : {A : Type 0} (b : Bool) (x y : A) → cond b x y ≡ cond (shut b) x y
+unfolding shut
+shut-test b x y = refl
+
+-- A choice by a test that is shut keeps the answer of the test itself.
 pub test : {A : Type 0} (Q : A → Type 0) (b : Bool) (x y : A) → (b ≡ true → Q x) → (b ≡ false → Q y)
-    → Q (if b then x else y)
-unfolding if_then_else_
-test Q true x y f g = f refl
-test Q false x y f g = g refl
+    → Q (cond (shut b) x y)
+unfolding shut
+test Q b x y f g = choice Q b x y f g
 
 -- After a read or a write: at the next one's check, or at H22.
 pub onward-elim : (Q : Working → Type 0) (plan : Plan) (w : Working)
     → ((m a : ℕ) → Q (goto (Place.Move Stage.Check) (withAccess m a w)))
     → ((m a : ℕ) → Q (goto Place.H22 (withAccess m a w))) → Q (onward plan w)
 onward-elim Q plan w f g =
-    test Q _ _ _ (λ _. f _ _) (λ _. test (λ a. Q (goto a (withAccess (w .index + 1) 0 w))) _ _ _ (λ _. f _ _)
-    (λ _. g _ _))
+    rw shut-test
+    (either Q (shut _) _ _ (f _ _)
+    (rw shut-test (either (λ a. Q (goto a (withAccess (w .index + 1) 0 w))) (shut _) _ _ (f _ _) (g _ _))))
 
 -- After H41: at the next listed block, or at H42.
-pub store-elim : (Q : Place → Type 0) (b : Bool) → Q Place.H36 → Q Place.H42 → Q (if b then Place.H36 else Place.H42)
-store-elim Q b f g = test Q _ _ _ (λ _. f) (λ _. g)
+pub store-elim :
+    (Q : Working → Type 0) (w : Working) → Q (goto Place.H36 (nextBlock w)) → Q (goto Place.H42 (nextBlock w))
+    → Q (goto (cond (ltb (w .j + 1) (w .numblks)) Place.H36 Place.H42) (nextBlock w))
+store-elim Q w f g = either (λ a. Q (goto a (nextBlock w))) (ltb (w .j + 1) (w .numblks)) _ _ f g
 
 -- After H21: at the first move's first check, or at H22.
 pub begin-elim : (Q : Place → Type 0) (ms : List Move) → Q (Place.Move Stage.Check) → Q Place.H22 → Q (begin ms)

@@ -36,7 +36,7 @@ use Rattle.model.specs.Memory.{jobOf, updateOf, memory}
 use Rattle.model.specs.Places.{isActive}
 use Rattle.model.specs.Status.{same}
 use Rattle.model.specs.Moves.{block, offset, move, written}
-use Rattle.model.specs.Working.{goto, called, withRound, taking, withWord, nextBlock}
+use Rattle.model.specs.Working.{goto, called, withRound, taking, withWord}
 use Rattle.model.specs.Steps.{Shared, quiet, storing, doing, sameVersion, mayDecide, mayCommit, item, stage}
 use Rattle.model.specs.History.{
   Event,
@@ -92,7 +92,7 @@ use Rattle.model.proofs.Growing.{
   memory-after-idle,
   memory-after-commit,
 }
-use Rattle.model.proofs.Tests.{test, onward-elim, store-elim, begin-elim, and-l, and-r, same-version}
+use Rattle.model.proofs.Tests.{shut-test, test, onward-elim, store-elim, begin-elim, and-l, and-r, same-version}
 use Rattle.model.proofs.Cards.{second, phase, announced, board, Runs, CardsHold}
 use Rattle.model.proofs.Epochs.{kind, winnerOf, Widened, HelpHolds, chief, EpochsHold}
 use Rattle.model.proofs.Contents.{Ghost, ghostStat, ghost}
@@ -1210,11 +1210,12 @@ module _
   stages : (st : Stage) → job p .place ≡ Place.Move st → Good (Place.Move st) (stage plan sh p st (job p))
   unfolding stage
   stages Stage.Check e =
-      test (Good (Place.Move Stage.Check)) _ _ _ (λ _. calm e tt refl (rw e)) (λ _. calm e tt refl (rw e))
+      rw shut-test
+      (test (Good (Place.Move Stage.Check)) _ _ _ (λ _. calm e tt refl (rw e)) (λ _. calm e tt refl (rw e)))
   stages Stage.List e =
-      test (Good (Place.Move Stage.List)) _ _ _ (λ _. calm e tt refl (rw e)) (λ _. calm e tt refl (rw e))
+      rw shut-test (test (Good (Place.Move Stage.List)) _ _ _ (λ _. calm e tt refl (rw e)) (λ _. calm e tt refl (rw e)))
   stages Stage.Copy e =
-      test (Good (Place.Move Stage.Copy)) _ _ _ (λ _. calm e tt refl (rw e)) (λ _. calm e tt refl (rw e))
+      rw shut-test (test (Good (Place.Move Stage.Copy)) _ _ _ (λ _. calm e tt refl (rw e)) (λ _. calm e tt refl (rw e)))
   stages Stage.Take e =
       onward-elim (λ x. Good (Place.Move Stage.Take) (quiet x)) plan
       (withWord (sh .blk (getD (job p .curr) (block plan (job p)) 0) (offset plan (job p))) (job p))
@@ -1239,18 +1240,19 @@ module _
   items Place.Idle e = absurd (not-active (job p .place) e (R .up))
   items Place.A1 e = takes e
   items Place.A2 e = arms e
-  items Place.A4 e = test (Good Place.A4) _ _ _ (λ _. calm e tt refl (rw e)) (λ _. calm e tt refl (rw e))
+  items Place.A4 e = rw shut-test (test (Good Place.A4) _ _ _ (λ _. calm e tt refl (rw e)) (λ _. calm e tt refl (rw e)))
   items Place.A7 e =
-      test (Good Place.A7) _ _ _ (λ _. calm e tt refl (rw e))
-      (λ _. test (Good Place.A7) _ _ _ (λ _. calm e tt refl (rw e)) (λ _. calm e tt refl (rw e)))
+      rw shut-test (test (Good Place.A7) _ _ _ (λ _. calm e tt refl (rw e))
+      (λ _. rw shut-test (test (Good Place.A7) _ _ _ (λ _. calm e tt refl (rw e)) (λ _. calm e tt refl (rw e)))))
   items Place.A10 e = calm e tt refl (rw e)
-  items Place.A12 e = test (Good Place.A12) _ _ _ (λ _. calm e tt refl (rw e)) (λ _. calm e tt refl (rw e))
-  items Place.A14 e = test (Good Place.A14) _ _ _ (announcing e) (again e)
+  items Place.A12 e =
+      rw shut-test (test (Good Place.A12) _ _ _ (λ _. calm e tt refl (rw e)) (λ _. calm e tt refl (rw e)))
+  items Place.A14 e = rw shut-test (test (Good Place.A14) _ _ _ (announcing e) (again e))
   items Place.A15 e = returning e
   items Place.H16 e = calm e tt refl (rw e)
   items Place.H17 e =
-      test (Good Place.H17) _ _ _ (λ _. calm e tt refl (rw e))
-      (λ _. test (Good Place.H17) _ _ _ (λ _. calm e tt refl (rw e)) (λ _. calm e tt refl (rw e)))
+      rw shut-test (test (Good Place.H17) _ _ _ (λ _. calm e tt refl (rw e))
+      (λ _. rw shut-test (test (Good Place.H17) _ _ _ (λ _. calm e tt refl (rw e)) (λ _. calm e tt refl (rw e)))))
   items Place.H21 e =
       begin-elim (λ a. Good Place.H21 (quiet (goto a (taking (sh .trans helped) (job p)))))
       (getD (plan .updates) (sh .trans helped) [])
@@ -1259,24 +1261,23 @@ module _
   items (Place.Move st) e = stages st e
   items Place.H22 e = calm e tt refl (rw e)
   items Place.H25 e =
-      test (Good Place.H25) _ _ _ (λ t. decides-call _ e t refl refl (rw e)) (λ _. calm e tt refl (rw e))
-  items Place.H32 e = test (Good Place.H32) _ _ _ (λ _. calm e tt refl (rw e)) (λ _. calm e tt refl (rw e))
-  items Place.H34 e = test (Good Place.H34) _ _ _ (λ _. calm e tt refl (rw e)) (λ _. calm e tt refl (rw e))
-  items Place.H36 e = test (Good Place.H36) _ _ _ (λ _. calm e tt refl (rw e)) (λ _. calm e tt refl (rw e))
-  items Place.H37 e = test (Good Place.H37) _ _ _ (λ _. calm e tt refl (rw e)) (λ _. calm e tt refl (rw e))
+      rw shut-test (test (Good Place.H25) _ _ _ (λ t. decides-call _ e t refl refl (rw e)) (λ _. calm e tt refl (rw e)))
+  items Place.H32 e =
+      rw shut-test (test (Good Place.H32) _ _ _ (λ _. calm e tt refl (rw e)) (λ _. calm e tt refl (rw e)))
+  items Place.H34 e =
+      rw shut-test (test (Good Place.H34) _ _ _ (λ _. calm e tt refl (rw e)) (λ _. calm e tt refl (rw e)))
+  items Place.H36 e =
+      rw shut-test (test (Good Place.H36) _ _ _ (λ _. calm e tt refl (rw e)) (λ _. calm e tt refl (rw e)))
+  items Place.H37 e =
+      rw shut-test (test (Good Place.H37) _ _ _ (λ _. calm e tt refl (rw e)) (λ _. calm e tt refl (rw e)))
   items Place.H38 e = calm e tt refl (rw e)
   items Place.H41 e =
-      test (Good Place.H41) _ _ _
+      rw shut-test (test (Good Place.H41) _ _ _
       (λ _.
-      store-elim
-      (λ a. Good Place.H41 (doing (Store.Bank (job p .addr) (job p .new)) (goto a (nextBlock (job p)))))
-      _
-      (puts _ e refl refl (rw e))
-      (puts _ e refl refl (rw e)))
-      (λ _.
-      store-elim (λ a. Good Place.H41 (quiet (goto a (nextBlock (job p))))) _ (calm e tt refl (rw e))
-      (calm e tt refl (rw e)))
-  items Place.H42 e = test (Good Place.H42) _ _ _ (commits-call e) (λ _. calm e tt refl (rw e))
+      store-elim (λ x. Good Place.H41 (doing (Store.Bank (job p .addr) (job p .new)) x)) (job p)
+      (puts _ e refl refl (rw e)) (puts _ e refl refl (rw e)))
+      (λ _. store-elim (λ x. Good Place.H41 (quiet x)) (job p) (calm e tt refl (rw e)) (calm e tt refl (rw e))))
+  items Place.H42 e = rw shut-test (test (Good Place.H42) _ _ _ (commits-call e) (λ _. calm e tt refl (rw e)))
 
   -- The item that p stands before.
   pub told-step :

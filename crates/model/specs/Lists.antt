@@ -1,12 +1,6 @@
--- Lists by a test, and a choice by a test. Assumes nothing.
-use mathlib.Core.Bool.{Bool, true, false, cond}
+-- Lists by a test. Assumes nothing.
+use mathlib.Core.Bool.{Bool, cond}
 use mathlib.Core.List.{List, [], _∷_}
-
-infix 1 if_then_else_
--- A choice by a test.
-unfoldable pub if_then_else_ : {A : Type 0} → Bool → A → A → A
-if true then x else y = x
-if false then x else y = y
 
 -- The elements that pass a test, in order.
 abbrev pub select : {A : Type 0} → (A → Bool) → List A → List A

@@ -13,7 +13,8 @@ use Rattle.model.specs.declared.Store.{Store}
 use Rattle.model.specs.declared.Out.{Out}
 use Rattle.model.specs.Working.{noWork, opening}
 use Rattle.model.specs.Cells.{withV, withAnn, withStat, withTrans, withBank, withNumblks}
-use Rattle.model.specs.Steps.{Shared, inFirstPlaces, item}
+use Rattle.text.specs.FirstPlaces.{inFirstPlaces}
+use Rattle.model.specs.Steps.{Shared, item}
 
 -- The state: the cells, every job's working record, the store, and the rows, by job and place.
 pub record Machine : Type 0 where

@@ -1,6 +1,7 @@
 -- The reads and writes of a move, in order, and where a job is in the update that it runs: "A set is one write; copy
 -- and add are a read, then a write." Assumes nothing.
 use Prim.Native.Nat.{ℕ, _+_, _%_}
+use mathlib.Core.Bool.{cond}
 use mathlib.Core.List.{List, [], _∷_}
 use lib.Dec.{ltb}
 use lib.ListN.{length, getD}
@@ -9,7 +10,6 @@ use Rattle.format.specs.Plan.{Plan, blockOf}
 use Rattle.model.specs.declared.Stage.{Stage}
 use Rattle.model.specs.declared.Place.{Place}
 use Rattle.model.specs.declared.Working.{Working}
-use Rattle.model.specs.Lists.{if_then_else_}
 use Rattle.model.specs.Memory.{sum}
 use Rattle.model.specs.Working.{goto, withAccess}
 
@@ -70,7 +70,7 @@ module _ (plan : Plan) where
   -- After a read or write: to the next one of the move, else to the next move, else to H22.
   abbrev pub onward : Working → Working
   onward w =
-      if ltb (w .access + 1) (length (accesses (move w)))
-      then goto (Place.Move Stage.Check) (withAccess (w .index) (w .access + 1) w)
-      else goto (if ltb (w .index + 1) (length (moves w)) then Place.Move Stage.Check else Place.H22)
-      (withAccess (w .index + 1) 0 w)
+      cond (ltb (w .access + 1) (length (accesses (move w))))
+      (goto (Place.Move Stage.Check) (withAccess (w .index) (w .access + 1) w))
+      (goto (cond (ltb (w .index + 1) (length (moves w))) (Place.Move Stage.Check) Place.H22)
+      (withAccess (w .index + 1) 0 w))

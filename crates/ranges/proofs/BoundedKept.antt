@@ -10,7 +10,7 @@
 use Prim.Native.Nat.{ℕ, _+_, _≤_, _<_}
 use mathlib.Core.Path.{_≡_, refl, sym, _∙_, ap}
 use mathlib.Core.Logic.{_≢_}
-use mathlib.Core.Bool.{Bool, true, false, true≢false}
+use mathlib.Core.Bool.{Bool, true, false, cond, true≢false}
 use mathlib.Core.List.{List, []}
 use native.Mathlib.Nat.{le-refl}
 use native.Mathlib.Decide.{ℕ-discrete}
@@ -26,7 +26,6 @@ use Rattle.model.specs.declared.Place.{Place}
 use Rattle.model.specs.declared.Working.{Working}
 use Rattle.model.specs.declared.Store.{Store}
 use Rattle.model.specs.declared.Out.{Out}
-use Rattle.model.specs.Lists.{if_then_else_}
 use Rattle.model.specs.Places.{isActive}
 use Rattle.model.specs.Status.{same, undecided, jobNamed}
 use Rattle.model.specs.Moves.{block, onward}
@@ -34,7 +33,7 @@ use Rattle.model.specs.Working.{goto, withWord, taking, nextBlock}
 use Rattle.model.specs.Steps.{Shared, quiet, item, stage, replaced, reclaimed}
 use Rattle.model.specs.Machine.{Machine, sharedIn, workOf, carriedOut, itemOf}
 use Rattle.model.specs.Ranges.{StatusIn, Names, mostNumbers, RoomFor}
-use Rattle.model.proofs.Tests.{test, onward-elim, begin-elim, or-l, or-r}
+use Rattle.model.proofs.Tests.{shut-test, test, onward-elim, begin-elim, or-l, or-r}
 use Rattle.ranges.proofs.Every.{Below, every-set, every-other, below-first, below-replaced}
 use Rattle.ranges.proofs.Bounded.{
   Numbers,
@@ -154,17 +153,17 @@ module _ (plan : Plan) (ok : Sound plan) (n : ℕ) (m : Machine) (B : Bounded pl
   -- The stages of a move.
   stages : (st : Stage) → w .place ≡ Place.Move st → w .hid < plan .sizes .jobs → Good (stage plan sh p st w)
   unfolding stage
-  stages Stage.Check e h = test Good _ _ _ (λ _. on-to _ refl I h) (λ _. on-to _ refl I h)
+  stages Stage.Check e h = rw shut-test (test Good _ _ _ (λ _. on-to _ refl I h) (λ _. on-to _ refl I h))
   stages Stage.List e h =
-      test Good _ _ _
+      rw shut-test (test Good _ _ _
       (λ t.
       let l : w .numblks < 16 = lists e .1 (eqb-true _ _ t) in
       puts _ _ _ refl (run-to _ _ _ (omega arith) (curr-to _ _ (B .cells .bank _)) (I .copy)) h
       (lists e .0, B .cells .bank _))
-      (λ _. on-to _ refl I h)
+      (λ _. on-to _ refl I h))
   stages Stage.Copy e h =
-      test Good _ _ _ (λ _. on-to _ refl I h)
-      (λ _. puts _ _ _ refl (run-to _ _ _ (I .numblks) (curr-to _ _ (I .copy _)) (I .copy)) h tt)
+      rw shut-test (test Good _ _ _ (λ _. on-to _ refl I h)
+      (λ _. puts _ _ _ refl (run-to _ _ _ (I .numblks) (curr-to _ _ (I .copy _)) (I .copy)) h tt))
   stages Stage.Take e h = behind (withWord _ w) Store.Nothing refl I h tt
   stages Stage.Write e h = behind w _ refl I h tt
 
@@ -172,14 +171,14 @@ module _ (plan : Plan) (ok : Sound plan) (n : ℕ) (m : Machine) (B : Bounded pl
   lines : (st : Store) (d : Bool) → StoreBounded plan (n + 1) st → Standing plan w Place.H41
       → Good
       (record {
-        work = goto (if ltb (w .j + 1) (w .numblks) then Place.H36 else Place.H42) (nextBlock w);
+        work = goto (cond (ltb (w .j + 1) (w .numblks)) Place.H36 Place.H42) (nextBlock w);
         store = st;
         done = d;
       })
   lines st d s h =
-      test (λ a. Good (record { work = goto a (nextBlock w); store = st; done = d })) _ _ _
+      rw shut-test (test (λ a. Good (record { work = goto a (nextBlock w); store = st; done = d })) _ _ _
       (λ t. puts _ st d refl I (h .0, (h .1 .0, ltb-true _ _ t)) s)
-      (λ _. puts _ st d refl I (h .0) s)
+      (λ _. puts _ st d refl I (h .0) s))
 
   -- Every item, by the place.
   items : (pl : Place) → w .place ≡ pl → Standing plan w pl → Good (item plan sh p pl w)
@@ -188,22 +187,23 @@ module _ (plan : Plan) (ok : Sound plan) (n : ℕ) (m : Machine) (B : Bounded pl
   items Place.A1 e h = puts _ _ _ refl I tt (B .works p .update on)
   items Place.A2 e h = puts _ _ _ refl I tt refl
   items Place.A4 e h =
-      test Good _ _ _ (λ _. on-to _ refl (lid-to _ (announced _)) tt) (λ _. on-to _ refl (lid-to _ (announced _)) tt)
+      rw shut-test
+      (test Good _ _ _ (λ _. on-to _ refl (lid-to _ (announced _)) tt) (λ _. on-to _ refl (lid-to _ (announced _)) tt))
   items Place.A7 e h =
-      test Good _ _ _ (λ _. on-to _ refl ver-to tt)
-      (λ _. test Good _ _ _ (λ _. on-to _ refl ver-to tt) (λ _. on-to _ refl ver-to tt))
+      rw shut-test (test Good _ _ _ (λ _. on-to _ refl ver-to tt)
+      (λ _. rw shut-test (test Good _ _ _ (λ _. on-to _ refl ver-to tt) (λ _. on-to _ refl ver-to tt))))
   items Place.A10 e h = on-to _ refl (hid-to _ (announced _)) tt
   items Place.A12 e h =
-      test Good _ _ _
+      rw shut-test (test Good _ _ _
       (λ _. puts _ _ _ refl I tt (let z : w .ver .count ≤ n = B .works p .numbers .ver in omega arith))
-      (λ _. on-to _ refl I tt)
+      (λ _. on-to _ refl I tt))
   items Place.A14 e h =
-      test Good _ _ _ (λ _. puts _ _ _ refl I tt (omega arith)) (λ _. puts _ _ _ refl I tt (omega arith))
+      rw shut-test (test Good _ _ _ (λ _. puts _ _ _ refl I tt (omega arith)) (λ _. puts _ _ _ refl I tt (omega arith)))
   items Place.A15 e h = puts _ _ _ refl I tt (le-refl (plan .sizes .jobs))
   items Place.H16 e h = on-to _ refl (hid-to _ (announced _)) tt
   items Place.H17 e h =
-      test Good _ _ _ (λ _. on-to _ refl I tt)
-      (λ f. test Good _ _ _ (λ _. on-to _ refl I (hid-job f)) (λ _. on-to _ refl I (hid-job f)))
+      rw shut-test (test Good _ _ _ (λ _. on-to _ refl I tt)
+      (λ f. rw shut-test (test Good _ _ _ (λ _. on-to _ refl I (hid-job f)) (λ _. on-to _ refl I (hid-job f)))))
   items Place.H21 e h =
       begin-elim (λ a. Good (quiet (goto a (taking (sh .trans (w .hid)) w))))
       (getD (plan .updates) (sh .trans (w .hid)) [])
@@ -212,31 +212,32 @@ module _ (plan : Plan) (ok : Sound plan) (n : ℕ) (m : Machine) (B : Bounded pl
   items (Place.Move st) e h = stages st e h
   items Place.H22 e h = puts _ _ _ refl I h tt
   items Place.H25 e h =
-      test Good _ _ _
+      rw shut-test (test Good _ _ _
       (λ _. puts _ _ _ refl (run-to _ _ _ (I .numblks) (I .curr) reclaimed-to) h (omega arith))
-      (λ _. on-to _ refl I h)
+      (λ _. on-to _ refl I h))
   items Place.H32 e h =
-      test Good _ _ _ (λ _. on-to _ refl I tt)
+      rw shut-test (test Good _ _ _ (λ _. on-to _ refl I tt)
       (λ t.
       on-to _ refl I (
         h,
         names (plan .sizes .jobs) (ok .jobs) (sh .stat (w .hid)) (status (w .hid)) (search or-l)
             (search or-r),
-      ))
+      )))
   items Place.H34 e h =
-      test Good _ _ _ (λ _. on-to _ refl (run-to _ _ _ (B .cells .numblks _) (I .curr) (I .copy)) (h .0))
+      rw shut-test (test Good _ _ _ (λ _. on-to _ refl (run-to _ _ _ (B .cells .numblks _) (I .curr) (I .copy)) (h .0))
       (λ t.
       on-to _ refl (run-to _ _ _ (B .cells .numblks _) (I .curr) (I .copy))
-      (h .0, (h .1, let z : sh .numblks (jobNamed (w .wid)) ≢ 0 = eqb-false _ _ t in omega arith)))
-  items Place.H36 e h = test Good _ _ _ (λ _. on-to _ refl I tt) (λ _. on-to _ refl I h)
-  items Place.H37 e h = test Good _ _ _ (λ _. on-to _ refl I tt) (λ _. on-to _ refl I h)
+      (h .0, (h .1, let z : sh .numblks (jobNamed (w .wid)) ≢ 0 = eqb-false _ _ t in omega arith))))
+  items Place.H36 e h = rw shut-test (test Good _ _ _ (λ _. on-to _ refl I tt) (λ _. on-to _ refl I h))
+  items Place.H37 e h = rw shut-test (test Good _ _ _ (λ _. on-to _ refl I tt) (λ _. on-to _ refl I h))
   items Place.H38 e h =
       on-to _ refl
       (numbers (I .lid) (I .hid) (I .ver) (I .numblks) (I .curr) (I .copy) (B .rows .addr _ _) (B .rows .new _ _))
       h
-  items Place.H41 e h = test Good _ _ _ (λ _. lines _ true (I .new) h) (λ _. lines Store.Nothing false tt h)
+  items Place.H41 e h =
+      rw shut-test (test Good _ _ _ (λ _. lines _ true (I .new) h) (λ _. lines Store.Nothing false tt h))
   items Place.H42 e h =
-      test Good _ _ _ (λ _. puts _ _ _ refl I tt (le-refl (plan .sizes .jobs))) (λ _. on-to _ refl I tt)
+      rw shut-test (test Good _ _ _ (λ _. puts _ _ _ refl I tt (le-refl (plan .sizes .jobs))) (λ _. on-to _ refl I tt))
 
   -- The item that p stands before.
   pub item-bounded : Bounded plan (n + 1) (carriedOut plan p (itemOf plan m p) m)

@@ -3,11 +3,13 @@
 use Prim.Native.Nat.{ℕ, zero, suc, _+_, _<_}
 use mathlib.Core.List.{List, [], _∷_, _++_}
 use native.Mathlib.Omega.{arith}
+use lib.Dec.{eqb}
 use lib.ListN.{length, getD, set, drop, replicate}
 use lib.Seq.{getD-drop}
 use Rattle.format.specs.Plan.{table}
-use Rattle.model.specs.Steps.{replaced, inFirstPlaces}
-use Rattle.model.proofs.Tests.{test}
+use Rattle.text.specs.FirstPlaces.{inFirstPlaces}
+use Rattle.model.specs.Steps.{replaced}
+use Rattle.model.proofs.Tests.{either}
 
 -- A fact of whatever is read from a list, where d is read past its end.
 abbrev pub Every : {A : Type 0} → (A → Type 0) → A → List A → Type 0
@@ -73,7 +75,7 @@ pub below-replaced :
 below-replaced b some addr old dirty zero h = λ i. some
 below-replaced b some addr old dirty (suc n) h =
     every-append (λ x. x < b) 0 (replaced addr old dirty n) _ (below-replaced b some addr old dirty n h)
-    (test (Below b) _ _ _ (λ _. every-one (λ x. x < b) 0 some (old n) (h n)) (λ _ i. some))
+    (either (Below b) (eqb (getD dirty (addr n) 0) 2) _ _ (every-one (λ x. x < b) 0 some (old n) (h n)) (λ i. some))
 
 -- Rows of numbers below a bound.
 abbrev pub RowsBelow : ℕ → List (List ℕ) → Type 0

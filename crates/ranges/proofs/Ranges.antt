@@ -15,12 +15,12 @@
 use Prim.Native.Nat.{ℕ, _+_, _≤_, _<_, _%_}
 use mathlib.Core.Path.{_≡_, refl, sym, _∙_, ap, subst}
 use mathlib.Core.Logic.{_≢_}
-use mathlib.Core.Bool.{true, false, true≢false, false≢true}
+use mathlib.Core.Bool.{true, true≢false, false≢true}
 use mathlib.Core.List.{List, [], _∷_, _++_, append-nil, append-assoc, foldl-append}
 use mathlib.Core.Option.{Option, none, some}
 use native.Mathlib.Decide.{decLt}
 use native.Mathlib.Omega.{arith}
-use lib.IntN.{pos, negsuc}
+use lib.IntN.{ℤ, pos, negsuc}
 use lib.ListN.{length}
 use borrow.Author.Tests.{ne-eqb}
 use Rattle.format.specs.declared.Entry.{Entry}
@@ -42,10 +42,10 @@ use Rattle.model.specs.Steps.{item, mayDecide, mayCommit, replaced}
 use Rattle.model.specs.Machine.{Machine, inRow, sharedIn, workOf, itemOf}
 use Rattle.model.specs.Entries.{judge, acted}
 use Rattle.model.specs.History.{latest, Run, unlessRefused, begun, judged, entered, runOf}
-use Rattle.model.specs.Ranges.{Inside, RoomFor, AtPlace, Ranges}
+use Rattle.model.specs.Ranges.{StatusIn, Inside, RoomFor, AtPlace, Ranges}
 use Rattle.model.proofs.View.{isUndecided, State, stateIn, finished-is, undecided-is}
 use Rattle.model.proofs.Lists.{job-seen, call-judged, step-judged}
-use Rattle.model.proofs.Tests.{test, and-l, and-r, same-version}
+use Rattle.model.proofs.Tests.{shut-test, test, and-l, and-r, same-version}
 use Rattle.model.proofs.SmallSteps.{ahead, attempt, copyOf, layout}
 use Rattle.model.proofs.Attempts.{Shape, Own}
 use Rattle.model.proofs.Running.{copy-lt}
@@ -57,6 +57,11 @@ use Rattle.model.proofs.Contents.{head, JobContents}
 use Rattle.model.proofs.Reached.{Inv, always}
 use Rattle.ranges.proofs.Bounded.{Standing, Bounded, bounded-later, opening-bounded, call-bounded}
 use Rattle.ranges.proofs.BoundedKept.{item-bounded}
+
+-- A status of at most n is one of at most m, where m is not less.
+pub status-wider : (n m : ℕ) → n ≤ m → (x : ℤ) → StatusIn n x → StatusIn m x
+status-wider n m l (pos w) h = omega arith
+status-wider n m l (negsuc a) h = h
 
 -- What a place says by itself, and what the layers say of a job inside a move, is what its place says.
 at-place :
@@ -195,7 +200,7 @@ module _ (plan : Plan) (ok : Sound plan) where
         may-commit =
             test (λ (o : Out). o .done ≡ true → mayCommit plan (sharedIn plan m) p w ≡ true) _ _ _ (λ t _. t)
             (λ _ f. absurd (false≢true f))
-            (rw at-commit at done)
+            (rw shut-test at (rw at-commit at done))
 
         -- The job that it helps is the chief, and so active.
         helped-active : isActive (s .job (w .hid) .place) ≡ true

@@ -3,9 +3,9 @@ ghost use mathlib.Core.Path.{_≡_};
 ghost use Prim.Native.Nat.{_≤_};
 ghost use lib.ListN.{take};
 ghost use Rattle.runs.specs.Runs.{runSchedule, left};
-ghost use Rattle.reference.specs.Answers.{endedOf};
+ghost use Rattle.ending.specs.Finishing.{endedOf};
+use ending::Ended;
 use format::Entry;
-use reference::Ended;
 
 // Runs a plan's text with the first records of an array, as many as `count` says.
 pub fn run_first(text: &[u8], records: [Entry; 4002], count: usize, buffer: &mut [u8]) -> Ended

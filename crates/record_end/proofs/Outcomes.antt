@@ -2,7 +2,6 @@
 use Prim.Native.Nat.{ℕ, zero, suc, _+_, _≤_, _<_}
 use mathlib.Core.Path.{_≡_, sym, _∙_, ap, subst}
 use mathlib.Core.List.{List, []}
-use mathlib.Core.Option.{Option, none, some}
 use native.Mathlib.Omega.{arith}
 use borrow.Author.Tests.{lt-ltb, le-ltb}
 use lib.ListN.{length}
@@ -16,10 +15,10 @@ use Rattle.format.specs.Faults.{mostEntries}
 use Rattle.format.specs.Reading.{Reading, refusal, accepted, reading, verdictOf}
 use Rattle.format.proofs.Sound.{accepted-sound}
 use Rattle.layout.specs.PlanTable.{planIn}
-use Rattle.model.specs.declared.Refusal.{Refusal}
 use Rattle.runs.specs.declared.End.{End}
 use Rattle.runs.specs.Report.{endNumber, endLine}
 use Rattle.runs.specs.Runs.{refused, reported, endOf, outcomeOf, otherFrom, unlessOther, ofRecords, runSchedule}
+use Rattle.runs.proofs.Ends.{end-low}
 use Rattle.cells.specs.Tables.{Tables, lent}
 use Rattle.cells.specs.Book.{bookOf}
 use Rattle.judge.specs.Rulings.{haltOf}
@@ -83,16 +82,10 @@ module _ (text : List ℕ) (es : List Entry) (plan : Plan) (ls : List Listed) (l
       by zero e l = ap (λ q. unlessOther q (outcomeOf plan es (λ i. i + 1) (length es))) (sym e)
       by (suc n) e l = absurd (omega arith)
 
--- The place of the end is small.
-pub low-end : (q : Option Refusal) (done count : ℕ) → done ≤ 4000 → count ≤ 4000
-    → endLine (endOf q (done + 1) count) ≤ 65536
-low-end none done count a c = omega (arith, c)
-low-end (some x) done count a c = omega (arith, a)
-
 -- Records that have run.
 module _ {text : List ℕ} {es : List Entry} {lines : ℕ} {t : List ℕ} {x : Tables} (a : Accepts text lines t)
     (ran : Ran t es es x) (few : length es ≤ 4000) (end : End)
-    (so : end ≡ endOf (haltOf (bookOf x .halt)) (bookOf x .entries + 1) (length es)) where
+    (so : end ≡ endOf (haltOf (bookOf x .halt)) (bookOf x .entries + 1) (bookOf x .entries + 1) (length es)) where
   -- The plan is sound.
   sound : Sound (planIn t)
   sound = accepted-sound Form.PlanAlone text (planIn t) (a .listed) lines (a .read)
@@ -101,10 +94,12 @@ module _ {text : List ℕ} {es : List Entry} {lines : ℕ} {t : List ℕ} {x : T
   pub to-report : Reportable t (lent (x .cells) (x .stat) (x .store) [] [] [] (x .commits))
   to-report = reportable-rowless (reportable sound few (ran .1))
 
+  -- The place of the end is small.
   pub low-place : endLine end ≤ 65536
   low-place =
       subst (λ e. endLine e ≤ 65536) (sym so)
-      (low-end (haltOf (bookOf x .halt)) (bookOf x .entries) (length es) (omega (arith, ran .1 .few-done, few)) few)
+      (end-low (haltOf (bookOf x .halt)) _ _ (length es) 65536 (omega (arith, ran .1 .few-done, few))
+      (omega (arith, few)))
 
   -- What is written, where no record is of another kind.
   pub written : bookOf x .other ≤ 0 → reported end (reportBytes t x (endNumber end) (endLine end)) ≡ runSchedule text es

@@ -3,18 +3,17 @@ ghost use mathlib.Core.Path.{_≡_};
 ghost use mathlib.Core.List.{List};
 ghost use Prim.Native.Nat.{ℕ};
 ghost use Rattle.runs.specs.Runs.{runSchedule, left};
-ghost use Rattle.ending.specs.Finishing.{WrittenOut};
-ghost use Rattle.reference.specs.Answers.{endedOf};
+ghost use Rattle.ending.specs.Finishing.{WrittenOut, endedOf};
 ghost use Rattle.cells.specs.Tables.{lent};
 ghost use Rattle.record_run.specs.Records.{Closing};
 use cells::CELL_PLACES;
+use ending::Ended;
 use ending::Finished;
 use format::Entry;
 use format::Fault;
 use format::Verdict;
 use layout::PLAN_PLACES;
 use record_run::MOST;
-use reference::Ended;
 use runs::End;
 
 // The report is written, unless the text or the records are refused.
@@ -43,8 +42,9 @@ fn report_of(
         };
     }
     if count > MOST {
+        let past = MOST + 1;
         return Finished {
-            end: End::Faulty(Fault::TooMany, MOST + 1),
+            end: End::Faulty(Fault::TooMany, past),
             length: 0,
         };
     }
@@ -56,7 +56,8 @@ fn report_of(
         };
     }
     let accepted = cells::entries(cells) as usize;
-    let end = ending::end_of(cells::halt(cells), accepted + 1, count);
+    let place = accepted + 1;
+    let end = ending::end_of(cells::halt(cells), place, place, count);
     ending::finish(buffer, plan, cells, stat, store, commits, end)
 }
 
@@ -81,5 +82,5 @@ pub fn finish(
         × (now (buffer .exit) ≡ left (runSchedule text es) (now (buffer .entry)))) ⌝ }
 {
     let finished = report_of(verdict, count, plan, cells, stat, store, commits, buffer);
-    reference::ended_of(finished)
+    ending::ended_of(finished)
 }

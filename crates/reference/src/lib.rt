@@ -2,9 +2,10 @@
 ghost use mathlib.Core.Path.{_≡_};
 ghost use Rattle.format.specs.Reading.{reading, verdictOf};
 ghost use Rattle.runs.specs.Runs.{runText, handed, left};
-ghost use Rattle.reference.specs.Answers.{answerOf, endedBy, endedOf};
+ghost use Rattle.ending.specs.Finishing.{endedOf};
+ghost use Rattle.reference.specs.Answers.{answerOf};
 ghost use denote.Ref.{ptr};
-use ending::Finished;
+use ending::Ended;
 use format::Form;
 use format::Verdict;
 use layout::ENTRY_PLACES;
@@ -43,26 +44,6 @@ pub fn answer_of(verdict: Verdict) -> Answer
     }
 }
 
-// How a run ended: its number in the table with its line, and the length of the report, 0 where none is written.
-#[repr(C)]
-pub struct Ended {
-    pub number: usize,
-    pub line: usize,
-    pub length: usize,
-}
-
-// How a run ended, by its number and line.
-pub fn ended_of(finished: Finished) -> Ended
-    ensures { λ r. ⌜ r ≡ endedBy finished ⌝ }
-{
-    let end = finished.end;
-    Ended {
-        number: ending::end_number(end),
-        line: ending::end_line(end),
-        length: finished.length,
-    }
-}
-
 // Runs a text. The report stands in the first places of the lent buffer; what lies behind it stays as it was, and where
 // no report is written all of it does.
 pub fn run(text: &[u8], buffer: &mut [u8]) -> Ended
@@ -70,7 +51,7 @@ pub fn run(text: &[u8], buffer: &mut [u8]) -> Ended
     ensures { λ _. ⌜ now (buffer .exit) ≡ left (runText (now (text .entry))) (now (buffer .entry)) ⌝ }
 {
     let finished = text_run::run_text(text, buffer);
-    ended_of(finished)
+    ending::ended_of(finished)
 }
 
 // Runs a text, and hands back the written part of the buffer, empty where no report is written.

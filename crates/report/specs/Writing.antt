@@ -5,7 +5,8 @@ use mathlib.Core.Bool.{cond}
 use mathlib.Core.List.{List, _++_}
 use lib.Dec.{leb}
 use lib.IntN.{pos}
-use lib.ListN.{length, getD, take, drop}
+use lib.ListN.{length, getD, take}
+use Rattle.text.specs.FirstPlaces.{inFirstPlaces}
 use Rattle.layout.specs.PlanTable.{sizesIn}
 use Rattle.model.specs.Ranges.{mostNumbers, StatusIn}
 use Rattle.cells.specs.CellTable.{places, bankAt}
@@ -39,7 +40,7 @@ fitting whole buffer = cond (leb (length whole) (length buffer)) (Written.Whole 
 
 -- A buffer with bytes in its first places where they fit, as it was where they do not.
 abbrev pub filled : List ℕ → List ℕ → List ℕ
-filled whole buffer = cond (leb (length whole) (length buffer)) (whole ++ drop (length whole) buffer) buffer
+filled whole buffer = cond (leb (length whole) (length buffer)) (inFirstPlaces whole buffer) buffer
 
 -- Bytes were written whole where they fit, and else not at all.
 pub record IsWritten (whole : List ℕ) (before : List ℕ) (answer : Written) (after : List ℕ) : Type 0 where

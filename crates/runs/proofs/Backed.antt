@@ -1,5 +1,5 @@
--- The commits and words that a report prints are those of a run that demand 3 holds of, whether the entries stand in
--- the text or come as records. Assumes nothing.
+-- The end, the commits and the words that a report prints are those of a run that demand 3 holds of, whether the entries
+-- stand in the text or come as records. Assumes nothing.
 use Prim.Native.Nat.{ℕ, _+_, _≤_}
 use mathlib.Core.Path.{_≡_, _∙_, ap, subst}
 use mathlib.Core.List.{List, map}
@@ -15,12 +15,8 @@ use Rattle.format.specs.Reading.{accepted, reading}
 use Rattle.model.specs.History.{runOf}
 use Rattle.model.specs.Demand3.{Holds, Demand3}
 use Rattle.model.proofs.Demand3.{demand3}
-use Rattle.runs.specs.declared.End.{End}
-use Rattle.runs.specs.Report.{report}
 use Rattle.runs.specs.Runs.{
   Outcome,
-  reported,
-  endOf,
   outcomeOf,
   lineIn,
   ofReading,
@@ -34,12 +30,11 @@ use Rattle.runs.specs.Backed.{Backed}
 
 -- The report of a run of any entries is backed, for the plan of an accepted text.
 backed : (form : Form) (text : List ℕ) (plan : Plan) (listed : List Listed) (n : ℕ)
-    → reading form text ≡ accepted plan listed n → (es : List Entry) (end : End) (o : Outcome)
-    → o ≡ reported end (report plan es (runOf plan es) end)
-    → Backed plan es o
-backed form text plan listed n read es end o is =
+    → reading form text ≡ accepted plan listed n → (es : List Entry) (line : ℕ → ℕ) (count : ℕ) (o : Outcome)
+    → o ≡ outcomeOf plan es line count
+    → Backed plan es line count o
+backed form text plan listed n read es line count o is =
     record {
-      end = end;
       outcome-is = is;
       holds = subst (λ l. Holds plan l (runOf plan l)) (take-length es) (demand .always (length es));
       demand = demand;
@@ -51,24 +46,21 @@ backed form text plan listed n read es end o is =
 -- The report of every accepted text is backed.
 pub report-backed :
     (text : List ℕ) (plan : Plan) (listed : List Listed) (n : ℕ) → reading Form.Schedule text ≡ accepted plan listed n
-    → Backed plan (map (λ (l : Listed). l .entry) listed) (runText text)
+    → Backed plan (map (λ (l : Listed). l .entry) listed) (lineIn listed) n (runText text)
 unfolding runText
 report-backed text plan listed n read =
     let es : List Entry = map (λ (l : Listed). l .entry) listed in
-    backed Form.Schedule text plan listed n read es
-    (endOf (runOf plan es .refusal) (lineIn listed (length (runOf plan es .history))) n) (runText text)
-    (ap ofReading read)
+    backed Form.Schedule text plan listed n read es (lineIn listed) n (runText text) (ap ofReading read)
 
 -- Demand 3 "is a single claim about the whole list of entries", of a list of records too: the report of every schedule
 -- of records that runs beside an accepted plan's text is backed.
 pub schedule-backed :
     (text : List ℕ) (plan : Plan) (listed : List Listed) (n : ℕ) → reading Form.PlanAlone text ≡ accepted plan listed n
     → (es : List Entry) → length es ≤ mostEntries → otherFrom 1 es ≡ none
-    → Backed plan es (runSchedule text es)
+    → Backed plan es (λ i. i + 1) (length es) (runSchedule text es)
 unfolding runSchedule
 schedule-backed text plan listed n read es few no-other =
-    backed Form.PlanAlone text plan listed n read es
-    (endOf (runOf plan es .refusal) (length (runOf plan es .history) + 1) (length es)) (runSchedule text es)
+    backed Form.PlanAlone text plan listed n read es (λ i. i + 1) (length es) (runSchedule text es)
     (ap (λ r. ofRecords r es) read
     ∙ rw (le-ltb mostEntries (length es) few)
     (ap (λ q. unlessOther q (outcomeOf plan es (λ i. i + 1) (length es))) no-other))

@@ -18,12 +18,12 @@ use Rattle.format.specs.Plan.{written}
 use Rattle.format.specs.Kinds.{kindOf}
 use Rattle.format.specs.Items.{recordOf}
 use Rattle.format.specs.Reading.{reading}
-use Rattle.model.specs.Lists.{if_then_else_}
 use Rattle.model.specs.Steps.{sameVersion, stage, item}
 use Rattle.model.specs.Machine.{openingOf, stored, carriedOut, itemOf}
 use Rattle.model.specs.Entries.{judge, acted}
 use Rattle.model.specs.History.{begun, entered, runOf}
-use Rattle.runs.specs.Report.{endNumber, endLine, report}
+use Rattle.runs.specs.declared.End.{End}
+use Rattle.runs.specs.Report.{endNumber, endLine, endEntry, report}
 use Rattle.runs.specs.Runs.{Outcome, refused, reported, runText, runSchedule, fits, ended, handed, left}
 use Rattle.runs.proofs.Texts.{times, oneJob, update, twoBlocks}
 
@@ -62,18 +62,21 @@ rest-kept o buffer = drop-append-seam (handed o buffer) (drop (length (handed o 
 abbrev pub entry : ℕ → ℕ → ℕ → Entry
 entry kind first second = record { kind = kind; first = first; second = second }
 
--- An outcome, how many bytes `x` are lent, and what must come of it: number, line, the part handed back, the buffer.
+-- An outcome, how many bytes `x` are lent, and what must come of it: number, line, the refused entry, the part handed
+-- back, the buffer.
 pub record Row : Type 0 where
   pub outcome : Outcome
   pub room : ℕ
   pub number : ℕ
   pub line : ℕ
+  pub entry : ℕ
   pub handed : String
   pub left : String
 
 -- A row whose answer leaves a buffer of four bytes untouched.
 abbrev pub untouched : Outcome → ℕ → ℕ → Row
-untouched o number line = record { outcome = o; room = 4; number = number; line = line; handed = ""; left = "xxxx" }
+untouched o number line =
+    record { outcome = o; room = 4; number = number; line = line; entry = 0; handed = ""; left = "xxxx" }
 
 -- The rows.
 abbrev pub rows : List Row
@@ -84,6 +87,7 @@ rows =
       room = 18;
       number = 0;
       line = 3;
+      entry = 0;
       handed = "block\t5\nend\t0\t3\n";
       left = "block\t5\nend\t0\t3\nxx";
     }
@@ -92,6 +96,7 @@ rows =
       room = 16;
       number = 0;
       line = 3;
+      entry = 0;
       handed = "block\t5\nend\t0\t3\n";
       left = "block\t5\nend\t0\t3\n";
     }
@@ -112,6 +117,7 @@ rows =
       room = 18;
       number = 11;
       line = 4;
+      entry = 1;
       handed = "block\t5\nend\t11\t4\n";
       left = "block\t5\nend\t11\t4\nx";
     }
@@ -120,6 +126,7 @@ rows =
       room = 28;
       number = 12;
       line = 6;
+      entry = 2;
       handed = "block\t5\nopen\t0\t1\nend\t12\t6\n";
       left = "block\t5\nopen\t0\t1\nend\t12\t6\nxx";
     }
@@ -128,6 +135,7 @@ rows =
       room = 18;
       number = 13;
       line = 4;
+      entry = 1;
       handed = "block\t5\nend\t13\t4\n";
       left = "block\t5\nend\t13\t4\nx";
     }
@@ -136,6 +144,7 @@ rows =
       room = 18;
       number = 14;
       line = 4;
+      entry = 1;
       handed = "block\t5\nend\t14\t4\n";
       left = "block\t5\nend\t14\t4\nx";
     }
@@ -145,7 +154,7 @@ rows =
     ∷ untouched (runText (oneJob 1 5 (update "call\t0\t0\ncall\t0\t0\n" []))) 15 0
     ∷ untouched (runText (oneJob 1 5 (bytes "step\t1\n"))) 15 0
     ∷ untouched (runText (oneJob 1 5 (bytes "step\t0\n"))) 15 0
-    ∷ record { outcome = runText []; room = 0; number = 3; line = 1; handed = ""; left = "" }
+    ∷ record { outcome = runText []; room = 0; number = 3; line = 1; entry = 0; handed = ""; left = "" }
     -- records: 5 and 3 by place, an entry line in the plan's text, 11 to 14 by place, acceptance with their count
     ∷ untouched (runSchedule (oneJob 1 5 []) (replicate 4001 (entry 2 0 0))) 5 4001
     ∷ untouched (runSchedule (oneJob 1 5 []) (entry 1 0 0 ∷ entry 2 0 0 ∷ [])) 3 2
@@ -155,6 +164,7 @@ rows =
       room = 27;
       number = 13;
       line = 3;
+      entry = 3;
       handed = "block\t5\nopen\t0\t1\nend\t13\t3\n";
       left = "block\t5\nopen\t0\t1\nend\t13\t3\nx";
     }
@@ -163,6 +173,7 @@ rows =
       room = 27;
       number = 0;
       line = 3;
+      entry = 0;
       handed = "block\t5\nopen\t0\t-1\nend\t0\t3\n";
       left = "block\t5\nopen\t0\t-1\nend\t0\t3\nx";
     }
@@ -172,12 +183,16 @@ rows =
 abbrev pub lent : Row → List ℕ
 lent r = replicate (r .room) 120
 
--- Number and line of every row.
+-- An end by its number, its line and its entry.
+abbrev pub numbers : End → List ℕ
+numbers e = endNumber e ∷ endLine e ∷ endEntry e ∷ []
+
+-- Number, line and entry of every row.
 pub all-answered :
-    map (λ (r : Row). endNumber (ended (r .outcome) (lent r)) ∷ endLine (ended (r .outcome) (lent r)) ∷ []) rows
-    ≡ map (λ (r : Row). r .number ∷ r .line ∷ []) rows
+    map (λ (r : Row). numbers (ended (r .outcome) (lent r))) rows
+    ≡ map (λ (r : Row). r .number ∷ r .line ∷ r .entry ∷ []) rows
 unfolding reading lines fields number kindOf recordOf written decimal
-    if_then_else_ sameVersion stage item openingOf stored carriedOut itemOf
+    sameVersion stage item openingOf stored carriedOut itemOf
     judge acted begun entered runOf report runText runSchedule
 all-answered = refl
 
@@ -186,6 +201,6 @@ pub all-left :
     map (λ (r : Row). handed (r .outcome) (lent r) ∷ left (r .outcome) (lent r) ∷ []) rows
     ≡ map (λ (r : Row). bytes (r .handed) ∷ bytes (r .left) ∷ []) rows
 unfolding reading lines fields number kindOf recordOf written decimal
-    if_then_else_ sameVersion stage item openingOf stored carriedOut itemOf
+    sameVersion stage item openingOf stored carriedOut itemOf
     judge acted begun entered runOf report runText runSchedule left
 all-left = refl

@@ -1,5 +1,5 @@
--- The runs that document 01 lists, as rows of one table, and the theorem that each text gives what its row says, by
--- computation on the definitions. Assumes nothing.
+-- The runs that document 01 lists, and a few that pin what these do not show, as rows of one table, and the theorem
+-- that each text gives what its row says, by computation on the definitions. Assumes nothing.
 use Prim.Native.Nat.{ℕ}
 use Prim.Native.String.{String}
 use mathlib.Core.Path.{_≡_, refl}
@@ -12,7 +12,6 @@ use Rattle.format.specs.Plan.{written}
 use Rattle.format.specs.Kinds.{kindOf}
 use Rattle.format.specs.Items.{recordOf}
 use Rattle.format.specs.Reading.{reading}
-use Rattle.model.specs.Lists.{if_then_else_}
 use Rattle.model.specs.Steps.{sameVersion, stage, item}
 use Rattle.model.specs.Machine.{openingOf, stored, carriedOut, itemOf}
 use Rattle.model.specs.Entries.{judge, acted}
@@ -80,12 +79,26 @@ rows =
       text = twoJobs (update "" (callAndSteps 4 ++ (bytes "call\t1\t0\n" ++ steps 40)));
       printed = "commit\t21\t0\t0\ncommit\t38\t1\t0\nblock\t5\nend\t0\t51\n";
     }
+    -- and what no listed run shows: "add (word d becomes word a plus k ..)" where d is not a;
+    ∷ record {
+      text = twoBlocks (update "add\t1\t0\t2\n" (callAndSteps 37));
+      printed = "commit\t33\t0\t0\nblock\t5\nblock\t7\nend\t0\t44\n";
+    }
+    -- "`open job status` for each active job, by job number", of job 1 alone and of both
+    ∷ record {
+      text = twoJobs (update "" (bytes "call\t1\t0\n" ++ steps 2));
+      printed = "block\t5\nopen\t1\t-1\nend\t0\t8\n";
+    }
+    ∷ record {
+      text = twoJobs (update "" (callAndSteps 2 ++ bytes "call\t1\t0\n"));
+      printed = "block\t5\nopen\t0\t-1\nopen\t1\t2\nend\t0\t9\n";
+    }
     ∷ []
 
 -- Every text prints what its row says.
 pub all-run :
     map (λ (r : Row). printed (runText (r .text))) rows ≡ map (λ (r : Row). bytes (r .printed)) rows
 unfolding reading lines fields number kindOf recordOf written decimal
-    if_then_else_ sameVersion stage item openingOf stored carriedOut itemOf
+    sameVersion stage item openingOf stored carriedOut itemOf
     judge acted begun entered runOf report runText printed
 all-run = refl

@@ -14,7 +14,6 @@ use Rattle.format.specs.Plan.{written}
 use Rattle.format.specs.Kinds.{kindOf}
 use Rattle.format.specs.Items.{recordOf}
 use Rattle.format.specs.Reading.{reading}
-use Rattle.model.specs.Lists.{if_then_else_}
 use Rattle.model.specs.Steps.{sameVersion, stage, item}
 use Rattle.model.specs.Machine.{openingOf, stored, carriedOut, itemOf}
 use Rattle.model.specs.Entries.{judge, acted}
@@ -31,12 +30,13 @@ planOfT = oneJob 1 5 (update "add\t0\t0\t2\n" [])
 abbrev callRecord : Entry
 callRecord = record { kind = 0; first = 0; second = 0 }
 
+-- A step of card 0, with any second number.
 abbrev stepRecord : ℕ → Entry
 stepRecord unused = record { kind = 1; first = 0; second = unused }
 
--- A record of another kind.
-abbrev otherRecord : Entry
-otherRecord = record { kind = 2; first = 0; second = 0 }
+-- A record of this kind, which is another where it is over 1.
+abbrev otherRecord : ℕ → Entry
+otherRecord kind = record { kind = kind; first = 0; second = 0 }
 
 -- A plan's text, records, and what must be printed.
 pub record Row : Type 0 where
@@ -60,9 +60,12 @@ rows =
       printed = "commit\t29\t0\t0\nblock\t7\nend\t14\t35\n";
     }
     -- "before any runs, .. the first record of another kind gives 3": the record before it would be refused
-    ∷ record { text = planOfT; records = stepRecord 0 ∷ otherRecord ∷ otherRecord ∷ []; printed = "end\t3\t2\n" }
+    ∷ record { text = planOfT; records = stepRecord 0 ∷ otherRecord 2 ∷ otherRecord 3 ∷ []; printed = "end\t3\t2\n" }
+    -- "of another kind": 3 as well as 2, and the largest
+    ∷ record { text = planOfT; records = callRecord ∷ otherRecord 3 ∷ []; printed = "end\t3\t2\n" }
+    ∷ record { text = planOfT; records = otherRecord 4294967295 ∷ []; printed = "end\t3\t1\n" }
     -- "beside a plan's text, in which an entry line is 3"; "After the text's check"
-    ∷ record { text = T 33; records = otherRecord ∷ []; printed = "end\t3\t6\n" }
+    ∷ record { text = T 33; records = otherRecord 2 ∷ []; printed = "end\t3\t6\n" }
     -- no records
     ∷ record { text = planOfT; records = []; printed = "block\t5\nend\t0\t0\n" }
     ∷ []
@@ -71,6 +74,6 @@ rows =
 pub all-run :
     map (λ (r : Row). printed (runSchedule (r .text) (r .records))) rows ≡ map (λ (r : Row). bytes (r .printed)) rows
 unfolding reading lines fields number kindOf recordOf written decimal
-    if_then_else_ sameVersion stage item openingOf stored carriedOut itemOf
+    sameVersion stage item openingOf stored carriedOut itemOf
     judge acted begun entered runOf report runSchedule printed
 all-run = refl

@@ -4,7 +4,7 @@
 -- lists differ after H25, the banks after H41, and the reports of T stopped before its commit. Assumes nothing.
 use Prim.Native.Nat.{ℕ, _*_}
 use mathlib.Core.Path.{_≡_, refl, sym, ap, _∙_}
-use mathlib.Core.Bool.{_&&_}
+use mathlib.Core.Bool.{cond, _&&_}
 use mathlib.Core.List.{List, [], _∷_, _++_, foldl, map}
 use native.Mathlib.Omega.{arith}
 use lib.Dec.{eqb}
@@ -24,7 +24,6 @@ use Rattle.model.specs.declared.Working.{Working}
 use Rattle.model.specs.declared.Store.{Store}
 use Rattle.model.specs.declared.Out.{Out}
 use Rattle.model.specs.declared.Judgement.{Judgement}
-use Rattle.model.specs.Lists.{if_then_else_}
 use Rattle.model.specs.Memory.{afterUpdate}
 use Rattle.model.specs.Places.{label}
 use Rattle.model.specs.Working.{withCopy}
@@ -35,7 +34,7 @@ use Rattle.model.specs.Entries.{judge, acted}
 use Rattle.model.specs.History.{Event, Run, begun, recorded, refusalIn, unlessRefused, entered, runOf}
 use Rattle.runs.specs.declared.End.{End}
 use Rattle.runs.specs.Report.{lastLine, joined, report}
-use Rattle.runs.specs.Runs.{endOf, lineIn, ofReading, printed}
+use Rattle.runs.specs.Runs.{endOfRun, lineIn, ofReading, printed}
 use Rattle.runs.proofs.Texts.{T}
 
 -- The near miss's stores: those to words and bank store nothing. V, announcements, statuses, Trans and the rows, with
@@ -68,7 +67,7 @@ missActed plan m (Judgement.Runs p) =
     let w : Working = workOf m p in
     let o : Out = itemOf plan m p in
     carriedOut plan p (record { work = withCopy (w .copy) (o .work); store = idle (o .store); done = o .done })
-    (if eqb (label (w .place)) 42 && o .done then doneWhole plan (w .hid) m else m)
+    (cond (eqb (label (w .place)) 42 && o .done) (doneWhole plan (w .hid) m) m)
 missActed plan m (Judgement.Refused r) = m
 
 -- Its run after one more entry.
@@ -90,7 +89,7 @@ seenBy look run (refusal f n) = lastLine (End.Faulty f n)
 seenBy look run (accepted plan ls n) =
     let es : List Entry = map (λ (l : Listed). l .entry) ls in
     let r : Run = run plan es in
-    look plan es r (endOf (r .refusal) (lineIn ls (length (r .history))) n)
+    look plan es r (endOfRun r (lineIn ls) n)
 
 -- Of the right machine's run `report` sees what the text prints.
 pub right-prints : (r : Reading) → seenBy report runOf r ≡ printed (ofReading r)
@@ -129,14 +128,14 @@ agreed =
 -- On the right machine H25 puts the replaced number into the copy list, and H41 the new one into the bank.
 pub right-shows :
     looks runOf ≡ agreed ++ ((1 ∷ 1 ∷ []) ∷ (1 ∷ 0 ∷ []) ∷ bytes "block\t7\nopen\t0\t0\nend\t0\t33\n" ∷ [])
-unfolding reading lines fields number kindOf recordOf written decimal if_then_else_ sameVersion stage item
+unfolding reading lines fields number kindOf recordOf written decimal sameVersion stage item
     openingOf stored carriedOut itemOf judge acted begun entered runOf report
 right-shows = refl
 
 -- The near miss leaves both as they were.
 pub miss-shows :
     looks missRunOf ≡ agreed ++ ((0 ∷ 1 ∷ []) ∷ (0 ∷ 1 ∷ []) ∷ bytes "block\t5\nopen\t0\t0\nend\t0\t33\n" ∷ [])
-unfolding reading lines fields number kindOf recordOf written decimal if_then_else_ sameVersion stage item
+unfolding reading lines fields number kindOf recordOf written decimal sameVersion stage item
     openingOf stored carriedOut itemOf judge acted begun report afterUpdate missActed missEntered missRunOf
 miss-shows = refl
 

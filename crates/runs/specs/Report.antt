@@ -20,15 +20,22 @@ use Rattle.model.specs.History.{commitsIn, Run}
 abbrev pub endNumber : End → ℕ
 endNumber (End.Accepted n) = 0
 endNumber (End.Faulty f n) = numberOf f
-endNumber (End.Refused r n) = refusalNumber r
+endNumber (End.Refused r i n) = refusalNumber r
 endNumber End.NoRoom = 15
 
 -- The line that an end has: "number 0 with the count of all lines, or the refusal and its line"; 15 has line 0.
 abbrev pub endLine : End → ℕ
 endLine (End.Accepted n) = n
 endLine (End.Faulty f n) = n
-endLine (End.Refused r n) = n
+endLine (End.Refused r i n) = n
 endLine End.NoRoom = 0
+
+-- The number of the entry that is refused, counted from 1; 0 where none is.
+abbrev pub endEntry : End → ℕ
+endEntry (End.Accepted n) = 0
+endEntry (End.Faulty f n) = 0
+endEntry (End.Refused r i n) = i
+endEntry End.NoRoom = 0
 
 -- Fields behind a first one, each behind a tab, and the line feed.
 abbrev pub fieldsBehind : List (List ℕ) → List ℕ

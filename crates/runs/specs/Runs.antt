@@ -2,10 +2,11 @@
 -- the lent buffer and handed back. Assumes nothing.
 use Prim.Native.Nat.{ℕ, _+_}
 use mathlib.Core.Bool.{Bool, cond, not, _||_}
-use mathlib.Core.List.{List, [], _∷_, _++_, map}
+use mathlib.Core.List.{List, [], _∷_, map}
 use mathlib.Core.Option.{Option, none, some}
 use lib.Dec.{eqb, ltb, leb}
-use lib.ListN.{length, getD, drop}
+use lib.ListN.{length, getD}
+use Rattle.text.specs.FirstPlaces.{inFirstPlaces}
 use Rattle.format.specs.declared.Entry.{Entry}
 use Rattle.format.specs.declared.Fault.{Fault}
 use Rattle.format.specs.declared.Form.{Form}
@@ -22,16 +23,20 @@ pub data Outcome : Type 0 where
   refused : Fault → ℕ → Outcome
   reported : End → List ℕ → Outcome
 
--- How a run ends: by the refusal that stopped it, at the line of the entry, or accepted with a count.
-abbrev pub endOf : Option Refusal → ℕ → ℕ → End
-endOf none line count = End.Accepted count
-endOf (some r) line count = End.Refused r line
+-- How a run ends: by the refusal that stopped it, with the entry's number and line, or accepted with a count.
+abbrev pub endOf : Option Refusal → ℕ → ℕ → ℕ → End
+endOf none entry line count = End.Accepted count
+endOf (some r) entry line count = End.Refused r entry line
 
--- What entries come to for a plan. Entry i, from 0, stands in line `line i`; acceptance gives `count`.
+-- How a run of entries ends. Entry i, from 0, stands in line `line i`; acceptance gives `count`.
+abbrev pub endOfRun : Run → (ℕ → ℕ) → ℕ → End
+endOfRun r line count = endOf (r .refusal) (length (r .history) + 1) (line (length (r .history))) count
+
+-- What entries come to for a plan.
 abbrev pub outcomeOf : Plan → List Entry → (ℕ → ℕ) → ℕ → Outcome
 outcomeOf plan es line count =
     let r : Run = runOf plan es in
-    let e : End = endOf (r .refusal) (line (length (r .history))) count in
+    let e : End = endOfRun r line count in
     reported e (report plan es r e)
 
 -- The line of entry i of a text.
@@ -90,7 +95,7 @@ handed (reported e bytes) buffer = cond (fits bytes buffer) bytes []
 
 -- What the buffer then holds: "bytes past the report keep what they held".
 unfoldable pub left : Outcome → List ℕ → List ℕ
-left o buffer = handed o buffer ++ drop (length (handed o buffer)) buffer
+left o buffer = inFirstPlaces (handed o buffer) buffer
 
 -- "A program .. prints the report, or `end number line` alone for 1 to 10."
 unfoldable pub printed : Outcome → List ℕ

@@ -4,10 +4,11 @@ use format::Fault;
 use model::Refusal;
 
 // How a run ends: accepted, with the count of lines or records; refused by the check of the text or of the records;
-// refused at an entry; or with a report that is longer than the lent buffer. Refusals come with their line.
+// refused at an entry, with the entry's number from 1; or with a report that is longer than the lent buffer. Refusals
+// come with their line.
 pub enum End {
     Accepted(usize),
     Faulty(Fault, usize),
-    Refused(Refusal, usize),
+    Refused(Refusal, usize, usize),
     NoRoom,
 }

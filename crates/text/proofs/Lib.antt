@@ -5,3 +5,4 @@ pub mod Scanned
 pub mod Reading
 pub mod Lines
 pub mod Decimal
+pub mod Digits

@@ -1,8 +1,7 @@
 -- What running an accepted text asks and gives. Assumes nothing.
-use Prim.Native.Nat.{ℕ, zero, suc, _≤_, _<_}
+use Prim.Native.Nat.{ℕ, zero, suc, _+_, _≤_, _<_}
 use mathlib.Core.Path.{_≡_, refl, sym, _∙_, ap, subst}
 use mathlib.Core.List.{List, [], _∷_}
-use mathlib.Core.Option.{Option, none, some}
 use native.Mathlib.Omega.{arith}
 use lib.IntN.{ℤ}
 use lib.ListN.{length, getD, take, length-map, List·getD-map}
@@ -17,11 +16,11 @@ use Rattle.format.proofs.Lines.{low-count, low-lines}
 use Rattle.format.proofs.Tables.{length-table, getD-table}
 use Rattle.layout.specs.PlanTable.{planIn}
 use Rattle.layout.specs.EntryTable.{listedAt, listedIn}
-use Rattle.model.specs.declared.Refusal.{Refusal}
-use Rattle.model.specs.History.{Run, runOf}
+use Rattle.model.specs.History.{runOf}
 use Rattle.runs.specs.declared.End.{End}
 use Rattle.runs.specs.Report.{endNumber, endLine}
-use Rattle.runs.specs.Runs.{refused, reported, endOf, lineIn, ofReading, runText}
+use Rattle.runs.specs.Runs.{refused, reported, endOf, endOfRun, lineIn, ofReading, runText}
+use Rattle.runs.proofs.Ends.{end-low}
 use Rattle.cells.specs.Tables.{Tables, lent}
 use Rattle.cells.specs.Book.{bookOf}
 use Rattle.judge.specs.Rulings.{haltOf}
@@ -79,9 +78,11 @@ module _ (text t entries : List ℕ) (count lines : ℕ) (read : Reads text t en
   few-listed : length (listedIn count entries) ≤ 4000
   few-listed = accepted-few Form.Schedule text (planIn t) (listedIn count entries) lines (sym read)
 
+  -- So the count of the table is small,
   pub few-entries : count ≤ 4000
   few-entries = omega (arith, few-listed, length-table count (listedAt entries))
 
+  -- and there are few records.
   few-es : length es ≤ 4000
   few-es = omega (arith, few-listed, entries-many (listedIn count entries))
 
@@ -95,40 +96,39 @@ module _ (text t entries : List ℕ) (count lines : ℕ) (read : Reads text t en
 
   -- The line of the end is one of the text's.
   low-end : (end : End)
-      → end ≡ endOf (runOf (planIn t) es .refusal)
-      (lineIn (listedIn count entries) (length (runOf (planIn t) es .history))) lines
+      → end ≡ endOfRun (runOf (planIn t) es) (lineIn (listedIn count entries)) lines
       → endLine end ≤ 65536
-  low-end end is = subst (λ e. endLine e ≤ 65536) (sym is) (by (run .refusal))
-    where
-      run : Run
-      run = runOf (planIn t) es
-
-      by : (f : Option Refusal)
-          → endLine (endOf f (lineIn (listedIn count entries) (length (run .history))) lines) ≤ 65536
-      by none = low-count Form.Schedule text (planIn t) (listedIn count entries) lines (sym read)
-      by (some x) = low-lines Form.Schedule text (planIn t) (listedIn count entries) lines (sym read) _
+  low-end end is =
+      subst (λ e. endLine e ≤ 65536) (sym is)
+      (end-low (runOf (planIn t) es .refusal) _ _ lines 65536
+      (low-lines Form.Schedule text (planIn t) (listedIn count entries) lines (sym read) _)
+      (low-count Form.Schedule text (planIn t) (listedIn count entries) lines (sym read)))
 
   -- The entries have run.
   module _ (x : Tables) (list : List Entry) (is : take count list ≡ es)
       (ran : Ran t (take count list) (take count list) x) (end : End)
-      (so : end ≡ endOf (haltOf (bookOf x .halt)) (lineIn (listedIn count entries) (bookOf x .entries)) lines) where
-    all-ran : Ran t es es x
-    all-ran = subst (λ l. Ran t l l x) is ran
+      (so : end
+      ≡ endOf (haltOf (bookOf x .halt)) (bookOf x .entries + 1) (lineIn (listedIn count entries) (bookOf x .entries))
+      lines)
+    where
+      -- All of them have,
+      all-ran : Ran t es es x
+      all-ran = subst (λ l. Ran t l l x) is ran
 
-    the-end : end ≡ endOf (runOf (planIn t) es .refusal)
-        (lineIn (listedIn count entries) (length (runOf (planIn t) es .history))) lines
-    the-end = so ∙ end-is sound-plan few-es (all-ran .1) (lineIn (listedIn count entries)) lines
+      -- and the end is that of their run.
+      the-end : end ≡ endOfRun (runOf (planIn t) es) (lineIn (listedIn count entries)) lines
+      the-end = so ∙ end-is sound-plan few-es (all-ran .1) (lineIn (listedIn count entries)) lines
 
-    -- What writing the report asks,
-    pub to-report : Reportable t (lent (x .cells) (x .stat) (x .store) [] [] [] (x .commits))
-    to-report = reportable-rowless (reportable sound-plan few-es (all-ran .1))
+      -- What writing the report asks,
+      pub to-report : Reportable t (lent (x .cells) (x .stat) (x .store) [] [] [] (x .commits))
+      to-report = reportable-rowless (reportable sound-plan few-es (all-ran .1))
 
-    pub low-line : endLine end ≤ 65536
-    low-line = low-end end the-end
+      pub low-line : endLine end ≤ 65536
+      low-line = low-end end the-end
 
-    -- and what is written.
-    pub the-run : reported end (reportBytes t x (endNumber end) (endLine end)) ≡ runText text
-    unfolding runText
-    the-run =
-        the-outcome sound-plan few-es (all-ran .1) (lineIn (listedIn count entries)) lines end the-end
-        ∙ ap ofReading read
+      -- and what is written.
+      pub the-run : reported end (reportBytes t x (endNumber end) (endLine end)) ≡ runText text
+      unfolding runText
+      the-run =
+          the-outcome sound-plan few-es (all-ran .1) (lineIn (listedIn count entries)) lines end the-end
+          ∙ ap ofReading read

@@ -62,8 +62,9 @@ fn run_plan(
         &mut new,
         &mut commits,
     );
-    let line = line_of(entries, count, cells::entries(&cells) as usize);
-    let end = ending::end_of(cells::halt(&cells), line, lines);
+    let accepted = cells::entries(&cells) as usize;
+    let line = line_of(entries, count, accepted);
+    let end = ending::end_of(cells::halt(&cells), accepted + 1, line, lines);
     ending::finish(buffer, plan, &cells, &stat, &store, &commits, end)
 }
 

@@ -1,6 +1,7 @@
 // The runner over the packs of cases in data/. It checks and runs the text of each case of the kind `run`, runs the
 // plan's text of each case of the kind `schedule` with its records, and writes where the check's answer or the run's
-// output is not what the case says, and for each pack how many cases agree.
+// output is not what the case says, and for each pack how many cases agree. A text with room enough for its report is
+// also run as the program `point_memory` runs it, and what is to be printed compared.
 //
 // A pack is case after case: the line `case NAME KIND ROOM INLEN RECLEN OUTLEN`, its words parted by one space, then
 // INLEN bytes of text, RECLEN bytes of records and OUTLEN bytes of what must come out. ROOM is the length of the buffer
@@ -15,15 +16,13 @@ use cases::Parts;
 use cases::RECORDS;
 use cases::Records;
 use cases::Room;
+use ending::Ended;
 use format::Entry;
+use printing::OUTPUT;
 use reference::Answer;
-use reference::Ended;
 
 // More bytes than the largest pack has.
 const ROOM: usize = 1400000;
-
-// Room for the longest report: up to 4,000 commit lines of 18 bytes, 16 block lines of 182, 16 open lines and the end.
-const REPORT: usize = 80000;
 
 // Whether the check's answer and the run's output are what a case says.
 struct Agreed {
@@ -79,19 +78,19 @@ fn try_schedule(
     Outcome::Scheduled(agrees)
 }
 
-// Checks and runs one case of a pack.
+// Checks and runs one case of a pack, and once more as the program does where all of the room is lent.
 fn run_case(
     pack_name: &[u8],
     header: &[u8],
     text: &[u8],
     records: &[u8],
     output: &[u8],
-    room: &mut [u8],
+    room: &mut [u8; OUTPUT],
 ) -> Outcome {
-    let Room::Bytes(n) = cases::room_of(cases::word(header, b' ', 3), room.len()) else {
+    let Room::Bytes(n) = cases::room_of(cases::word(header, b' ', 3), OUTPUT) else {
         return Outcome::Malformed;
     };
-    if n > room.len() {
+    if n > OUTPUT {
         return Outcome::Malformed;
     }
     let Ending::Read(end) = agreement::read_ending(cases::last_line(output)) else {
@@ -108,14 +107,21 @@ fn run_case(
     }
     let checked = agreement::check_case(pack_name, case_name, text, end);
     let ran = agreement::try_case(pack_name, case_name, text, output, end, room, n);
+    let printed = n < OUTPUT || agreement::try_print(pack_name, case_name, text, output, end, room);
     Outcome::Ran(Agreed {
         check: checked,
-        run: ran,
+        run: ran && printed,
     })
 }
 
 // Runs the case whose parts stand at a place of a pack.
-fn run_at(pack_name: &[u8], pack: &[u8], at: usize, parts: Parts, room: &mut [u8]) -> Outcome
+fn run_at(
+    pack_name: &[u8],
+    pack: &[u8],
+    at: usize,
+    parts: Parts,
+    room: &mut [u8; OUTPUT],
+) -> Outcome
     requires { ⌜ Placed at (length (now pack)) parts ⌝ }
 {
     let header = parts.header;
@@ -145,7 +151,7 @@ fn counted(count: usize, agrees: bool) -> usize
 }
 
 // Runs the cases of a pack up to its end, or up to one that is malformed.
-fn run_pack(name: &[u8], pack: &[u8], room: &mut [u8]) {
+fn run_pack(name: &[u8], pack: &[u8], room: &mut [u8; OUTPUT]) {
     let mut checks = 0;
     let mut runs = 0;
     let mut run = 0;
@@ -178,14 +184,18 @@ fn run_pack(name: &[u8], pack: &[u8], room: &mut [u8]) {
 }
 
 // Reads a pack into the bytes lent for it, and runs it. One that fills them all may go on past them: it is not run.
-fn run_file(name: &[u8], bytes: &mut [u8], room: &mut [u8]) {
+fn run_file(name: &[u8], bytes: &mut [u8], room: &mut [u8; OUTPUT]) {
     let descriptor = os::open_read(name);
     if descriptor < 0 {
         os::fail(name);
         return;
     }
-    let length = io::read_full(descriptor, bytes);
+    let read = streams::read_all(descriptor, name, bytes);
     libc::close(descriptor);
+    if read.failed {
+        return;
+    }
+    let length = read.length;
     if length == bytes.len() {
         agreement::print_malformed(name);
         return;
@@ -195,7 +205,7 @@ fn run_file(name: &[u8], bytes: &mut [u8], room: &mut [u8]) {
 
 // Runs each pack. It is lent the room as arrays, whose lengths their types give: to count the zeros of so many would
 // take the prover too much room.
-fn run_files(bytes: &mut [u8; ROOM], room: &mut [u8; REPORT]) {
+fn run_files(bytes: &mut [u8; ROOM], room: &mut [u8; OUTPUT]) {
     run_file(b"base.pack", bytes, room);
     run_file(b"runs.pack", bytes, room);
     run_file(b"wrong.pack", bytes, room);
@@ -204,6 +214,6 @@ fn run_files(bytes: &mut [u8; ROOM], room: &mut [u8; REPORT]) {
 // Runs the packs. The cases of the last one are wrong on purpose: one in its answer, one in a line of its report.
 fn main() {
     let mut bytes = [0u8; ROOM];
-    let mut room = [0u8; REPORT];
+    let mut room = [0u8; OUTPUT];
     run_files(&mut bytes, &mut room);
 }

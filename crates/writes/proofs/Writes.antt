@@ -5,8 +5,9 @@ use mathlib.Core.List.{List, [], _∷_, _++_}
 use native.Mathlib.Nat.{add-zero, zero-add}
 use native.Mathlib.Numerals.{add-one}
 use native.Mathlib.Omega.{arith}
-use lib.ListN.{length, set, drop, length-append}
-use lib.Seq.{sets, length-sets, sets-eq, set-out}
+use lib.ListN.{length, set, take, drop, length-append}
+use lib.Seq.{sets, length-sets, sets-eq, set-out, take-append-seam}
+use Rattle.text.specs.FirstPlaces.{inFirstPlaces}
 use Rattle.runs.specs.Report.{joined}
 use Rattle.writes.specs.Writes.{put, Writes}
 
@@ -36,8 +37,17 @@ put-append b at (x ∷ xs) ys =
     put-append (set b at x) (at + 1) xs ys ∙ rw e
 
 -- Bytes from the start on, where they fit.
-pub put-whole : (b : List ℕ) (xs : List ℕ) → length xs ≤ length b → put b 0 xs ≡ xs ++ drop (length xs) b
+pub put-whole : (b : List ℕ) (xs : List ℕ) → length xs ≤ length b → put b 0 xs ≡ inFirstPlaces xs b
 put-whole b xs h = put-sets b 0 xs ∙ sets-eq xs b 0 (omega arith) ∙ rw (zero-add (length xs))
+
+-- Bytes in the first places of a buffer are so many of its first bytes.
+pub counts : (xs before : List ℕ) {n : ℕ} {after : List ℕ} → n ≡ length xs → after ≡ inFirstPlaces xs before
+    → (n ≤ length after) × (n ≡ length (take n after))
+counts xs before e is =
+    rw (e, is) (
+      omega (arith, length-append xs (drop (length xs) before)),
+      ap length (sym (take-append-seam xs (drop (length xs) before))),
+    )
 
 module _ {xs : List ℕ} {most at next : ℕ} {before after : List ℕ} where
   -- A buffer keeps its length.

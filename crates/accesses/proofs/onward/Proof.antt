@@ -4,7 +4,6 @@ use native.Mathlib.Omega.{arith}
 use lib.ListN.{length}
 use borrow.Author.Tests.{lt-ltb, le-ltb}
 use Rattle.layout.specs.PlanTable.{countAt}
-use Rattle.model.specs.Lists.{if_then_else_}
 use Rattle.model.specs.Moves.{accesses}
 use Rattle.accesses.proofs.Laws.{at-most-two}
 use borrow.Author.Needs.{needs}
@@ -27,7 +26,6 @@ go-to-requires : tie.Need-go-to-requires
 go-to-requires c κs = search needs
 
 returns : tie.Need-returns
-unfolding if_then_else_
 returns c =
     let h = c .before .before .before in
     let s = h .before .before in
@@ -56,7 +54,6 @@ go-to-requires-2 : tie.Need-go-to-requires-2
 go-to-requires-2 c κs = search needs
 
 returns-2 : tie.Need-returns-2
-unfolding if_then_else_
 returns-2 c =
     let f = c .before .before in
     let h = f .before .before .before .before .before in
@@ -73,7 +70,6 @@ go-to-requires-3 : tie.Need-go-to-requires-3
 go-to-requires-3 c κs = search needs
 
 returns-3 : tie.Need-returns-3
-unfolding if_then_else_
 returns-3 c =
     let f = c .before .before in
     let h = f .before .before .before .before .before in

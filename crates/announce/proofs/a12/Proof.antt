@@ -1,6 +1,5 @@
 -- `a12` is the item A12 of the step list. Assumes nothing.
 use borrow.Author.Needs.{needs}
-use Rattle.model.specs.Lists.{if_then_else_}
 use Rattle.model.specs.Steps.{item}
 use Rattle.cells.specs.Effects.{Does}
 use Rattle.announce.proofs.a12.Statement.{statement}
@@ -19,7 +18,7 @@ storing-requires : tie.Need-storing-requires
 storing-requires c κs = search needs
 
 returns : tie.Need-returns
-unfolding Does item if_then_else_
+unfolding Does item
 returns c = (
   λ t x p is.
       let b = c .before .before .before in
@@ -35,7 +34,7 @@ quiet-requires : tie.Need-quiet-requires
 quiet-requires c κs = search needs
 
 returns-2 : tie.Need-returns-2
-unfolding Does item if_then_else_
+unfolding Does item
 returns-2 c = (
   λ t x p is.
       let b = c .before .before in

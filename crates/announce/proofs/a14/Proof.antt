@@ -1,7 +1,6 @@
 -- `a14` is the item A14 of the step list. Assumes nothing.
 use borrow.Author.Tests.{eq-eqb, ne-eqb}
 use borrow.Author.Needs.{needs}
-use Rattle.model.specs.Lists.{if_then_else_}
 use Rattle.model.specs.Steps.{item}
 use Rattle.cells.specs.Effects.{Does}
 use Rattle.announce.proofs.Card.{card-in, card-small}
@@ -18,7 +17,7 @@ storing-requires : tie.Need-storing-requires
 storing-requires c κs = search needs
 
 returns : tie.Need-returns
-unfolding Does item if_then_else_
+unfolding Does item
 returns c = (
   λ x.
       let b = c .before .before in
@@ -41,7 +40,7 @@ storing-requires-2 : tie.Need-storing-requires-2
 storing-requires-2 c κs = search needs
 
 returns-2 : tie.Need-returns-2
-unfolding Does item if_then_else_
+unfolding Does item
 returns-2 c = (
   λ x.
       let b = c .before .before in

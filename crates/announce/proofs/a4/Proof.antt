@@ -4,7 +4,6 @@ use native.Mathlib.Omega.{arith}
 use borrow.Author.Tests.{eq-eqb, ne-eqb}
 use borrow.Author.Needs.{needs}
 use Rattle.layout.specs.PlanTable.{sizesIn}
-use Rattle.model.specs.Lists.{if_then_else_}
 use Rattle.model.specs.Steps.{item}
 use Rattle.cells.specs.Effects.{Does}
 use Rattle.announce.proofs.Card.{card-in}
@@ -32,7 +31,7 @@ quiet-requires : tie.Need-quiet-requires
 quiet-requires c κs = search needs
 
 returns : tie.Need-returns
-unfolding Does item if_then_else_
+unfolding Does item
 returns c = (
   λ x is.
       let f = c .before .before in
@@ -51,7 +50,7 @@ quiet-requires-2 : tie.Need-quiet-requires-2
 quiet-requires-2 c κs = search needs
 
 returns-2 : tie.Need-returns-2
-unfolding Does item if_then_else_
+unfolding Does item
 returns-2 c = (
   λ x is.
       let f = c .before .before in

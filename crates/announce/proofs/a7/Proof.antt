@@ -8,7 +8,6 @@ use lib.IntN.{ℤ, pos}
 use lib.ListN.{getD}
 use borrow.Author.Needs.{needs}
 use Rattle.layout.specs.PlanTable.{sizesIn, jobAt}
-use Rattle.model.specs.Lists.{if_then_else_}
 use Rattle.model.specs.Status.{same}
 use Rattle.model.specs.Steps.{item}
 use Rattle.cells.specs.CellTable.{versionIn}
@@ -39,7 +38,7 @@ quiet-requires : tie.Need-quiet-requires
 quiet-requires c κs = search needs
 
 returns : tie.Need-returns
-unfolding Does item if_then_else_
+unfolding Does item
 returns c = (
   λ x is stat-is.
       let e = c .before .before .before in
@@ -68,9 +67,11 @@ returns c = (
 -- Where A7 goes on to V's flag, its condition for A14 does not hold: Stat[lid] is not N, or V points at this card and
 -- its flag is true.
 module _ (c : tie.Joined1) where
+  -- N as a status.
   abbrev none : ℤ
   none = pos (sizesIn (c .before .before .before .args .plan .now) .jobs)
 
+  -- The condition for A14.
   abbrev leaves : Bool
   leaves =
       let a = c .before .before .before .args in
@@ -79,6 +80,7 @@ module _ (c : tie.Joined1) where
       let elsewhere = not (eqb (v .count % sizesIn t .cards) (jobAt t (a .p) .card)) || not (v .flag) in
       same (getD (a .stat .now) (a .w .lid) none) none && elsewhere
 
+  -- It does not hold.
   stays : leaves ≡ false
   stays =
       let test = c .before .is-finished .ensures none in
@@ -95,7 +97,7 @@ quiet-requires-2 : tie.Need-quiet-requires-2
 quiet-requires-2 c κs = search needs
 
 returns-2 : tie.Need-returns-2
-unfolding Does item if_then_else_
+unfolding Does item
 returns-2 c = (
   λ x is stat-is.
       let b = c .before .before in
@@ -121,7 +123,7 @@ quiet-requires-3 : tie.Need-quiet-requires-3
 quiet-requires-3 c κs = search needs
 
 returns-3 : tie.Need-returns-3
-unfolding Does item if_then_else_
+unfolding Does item
 returns-3 c = (
   λ x is stat-is.
       let b = c .before .before in

@@ -1,4 +1,4 @@
--- Whether job k is active.
+-- `is_active` answers whether job k is active. Assumes nothing.
 use borrow.Author.Needs.{needs}
 use Rattle.cells.proofs.is_active.Statement.{statement}
 use Rattle.cells.proofs.is_active.Tie as tie

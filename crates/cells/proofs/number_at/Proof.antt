@@ -1,4 +1,4 @@
--- Number i of the n from a start on.
+-- `number_at` reads number i of the n from a start on. Assumes nothing.
 use mathlib.Core.Path.{sym, _∙_}
 use Rattle.cells.proofs.Places.{places-at}
 use borrow.Author.Needs.{needs}

@@ -1,4 +1,4 @@
--- Puts V.
+-- `put_version` puts V. Assumes nothing.
 use borrow.Author.Needs.{needs}
 use Rattle.cells.proofs.put_version.Statement.{statement}
 use Rattle.cells.proofs.put_version.Tie as tie

@@ -1,4 +1,4 @@
--- Puts V, its flag as a number.
+-- `put_version_bits` puts V, its flag as a number. Assumes nothing.
 use borrow.Author.Needs.{needs}
 use Rattle.cells.proofs.put_version_bits.Statement.{statement}
 use Rattle.cells.proofs.put_version_bits.Tie as tie

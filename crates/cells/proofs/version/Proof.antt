@@ -1,4 +1,4 @@
--- V, read.
+-- `version` reads V. Assumes nothing.
 use borrow.Author.Needs.{needs}
 use Rattle.cells.proofs.version.Statement.{statement}
 use Rattle.cells.proofs.version.Tie as tie

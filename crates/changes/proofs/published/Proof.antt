@@ -6,7 +6,7 @@ use lib.ListN.{length, getD}
 use denote.Ref.{now}
 use borrow.Author.Needs.{needs}
 use Rattle.format.specs.Plan.{table}
-use Rattle.model.specs.Steps.{inFirstPlaces}
+use Rattle.text.specs.FirstPlaces.{inFirstPlaces}
 use Rattle.cells.specs.CellTable.{places, currAt}
 use Rattle.changes.proofs.FirstPlaces.{one-more-of}
 use Rattle.changes.proofs.published.Statement.{statement}

@@ -1,6 +1,5 @@
 -- `after_store` meets its contract. Assumes nothing.
 use borrow.Author.Tests.{lt-ltb, le-ltb}
-use Rattle.model.specs.Lists.{if_then_else_}
 use borrow.Author.Needs.{needs}
 use Rattle.commit.proofs.after_store.Statement.{statement}
 use Rattle.commit.proofs.after_store.Tie as tie
@@ -15,14 +14,12 @@ go-to-requires : tie.Need-go-to-requires
 go-to-requires c κs = search needs
 
 returns : tie.Need-returns
-unfolding if_then_else_
 returns c = rw (lt-ltb _ _ (c .before .if1 .taken)) (c .go-to .ensures)
 
 go-to-requires-2 : tie.Need-go-to-requires-2
 go-to-requires-2 c κs = search needs
 
 returns-2 : tie.Need-returns-2
-unfolding if_then_else_
 returns-2 c = rw (le-ltb _ _ (c .before .if1 .left)) (c .go-to2 .ensures)
 
 pub after-store-spec : {M : Type 1} → statement M

@@ -1,5 +1,4 @@
 -- `h36` is the item H36 of the step list. Assumes nothing.
-use Rattle.model.specs.Lists.{if_then_else_}
 use Rattle.model.specs.Steps.{item}
 use Rattle.cells.specs.Effects.{Does}
 use borrow.Author.Needs.{needs}
@@ -16,7 +15,7 @@ quiet-requires : tie.Need-quiet-requires
 quiet-requires c κs = search needs
 
 returns : tie.Need-returns
-unfolding Does item if_then_else_
+unfolding Does item
 returns c = (
   λ t x p is.
       rw (is, ← c .before .before .before .same-version .ensures, c .before .before .if1 .taken)
@@ -31,7 +30,7 @@ quiet-requires-2 : tie.Need-quiet-requires-2
 quiet-requires-2 c κs = search needs
 
 returns-2 : tie.Need-returns-2
-unfolding Does item if_then_else_
+unfolding Does item
 returns-2 c = (
   λ t x p is.
       rw (is, ← c .before .before .before .same-version .ensures, c .before .before .if1 .left)

@@ -2,7 +2,6 @@
 use mathlib.Core.Path.{sym, _∙_}
 use lib.IntN.{pos}
 use Rattle.layout.specs.PlanTable.{sizesIn}
-use Rattle.model.specs.Lists.{if_then_else_}
 use Rattle.model.specs.Steps.{item}
 use Rattle.cells.specs.Effects.{Does}
 use borrow.Author.Needs.{needs}
@@ -19,7 +18,7 @@ quiet-requires : tie.Need-quiet-requires
 quiet-requires c κs = search needs
 
 returns : tie.Need-returns
-unfolding Does item if_then_else_
+unfolding Does item
 returns c = (
   λ x is.
       let f = c .before .before .before in
@@ -36,7 +35,7 @@ quiet-requires-2 : tie.Need-quiet-requires-2
 quiet-requires-2 c κs = search needs
 
 returns-2 : tie.Need-returns-2
-unfolding Does item if_then_else_
+unfolding Does item
 returns-2 c = (
   λ x is.
       let f = c .before .before .before in

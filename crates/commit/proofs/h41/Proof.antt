@@ -1,6 +1,5 @@
 -- `h41` is the item H41 of the step list. Assumes nothing.
 use mathlib.Core.Path.{sym, _∙_}
-use Rattle.model.specs.Lists.{if_then_else_}
 use Rattle.model.specs.Steps.{item}
 use Rattle.cells.specs.Effects.{Does}
 use borrow.Author.Needs.{needs}
@@ -23,7 +22,7 @@ doing-requires : tie.Need-doing-requires
 doing-requires c κs = search needs
 
 returns : tie.Need-returns
-unfolding Does item if_then_else_
+unfolding Does item
 returns c = (
   λ t x p is.
       let g = c .before .before .before .before in
@@ -39,7 +38,7 @@ quiet-requires : tie.Need-quiet-requires
 quiet-requires c κs = search needs
 
 returns-2 : tie.Need-returns-2
-unfolding Does item if_then_else_
+unfolding Does item
 returns-2 c = (
   λ t x p is.
       let g = c .before .before in

@@ -3,7 +3,6 @@ use mathlib.Core.Path.{sym, _∙_}
 use native.Mathlib.Omega.{arith}
 use lib.IntN.{pos}
 use Rattle.layout.specs.PlanTable.{sizesIn}
-use Rattle.model.specs.Lists.{if_then_else_}
 use Rattle.model.specs.Steps.{item}
 use Rattle.cells.specs.Effects.{Does}
 use borrow.Author.Needs.{needs}
@@ -26,7 +25,7 @@ doing-requires : tie.Need-doing-requires
 doing-requires c κs = search needs
 
 returns : tie.Need-returns
-unfolding Does item if_then_else_
+unfolding Does item
 returns c =
     let g = c .before .before .before .before in
     let may = g .before .may-decide .ensures in
@@ -49,7 +48,7 @@ storing-requires : tie.Need-storing-requires
 storing-requires c κs = search needs
 
 returns-2 : tie.Need-returns-2
-unfolding Does item if_then_else_
+unfolding Does item
 returns-2 c =
     let g = c .before .before in
     let may = g .before .may-decide .ensures in (

@@ -59,10 +59,10 @@ use Rattle.record_run.specs.Records.{BegunIs, Closing}
 use Rattle.record_run.proofs.Records.{Fresh, asks, closing}
 use Rattle.record_run.proofs.Begun as B
 use Rattle.record_run.proofs.Begun.Laws as B′
-use Rattle.reference.specs.declared.Ended.{Ended}
-use Rattle.reference.specs.Answers.{endedOf}
-use Rattle.reference.proofs.Ended as N
-use Rattle.reference.proofs.Ended.Laws as N′
+use Rattle.ending.specs.declared.Ended.{Ended}
+use Rattle.ending.specs.Finishing.{endedOf}
+use Rattle.ending.proofs.Ended as N
+use Rattle.ending.proofs.Ended.Laws as N′
 -- the callees
 use Rattle.record_run.proofs.begin as begin
 use Rattle.record_run.proofs.begin.Symbol as begin-def

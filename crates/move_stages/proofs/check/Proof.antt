@@ -2,7 +2,6 @@
 use mathlib.Core.Path.{sym, _∙_}
 use lib.IntN.{pos}
 use Rattle.layout.specs.PlanTable.{sizesIn}
-use Rattle.model.specs.Lists.{if_then_else_}
 use Rattle.model.specs.Steps.{stage, item}
 use Rattle.cells.specs.Effects.{Does}
 use borrow.Author.Needs.{needs}
@@ -19,7 +18,7 @@ quiet-requires : tie.Need-quiet-requires
 quiet-requires c κs = search needs
 
 returns : tie.Need-returns
-unfolding Does item stage if_then_else_
+unfolding Does item stage
 returns c = (
   λ t x p is stat.
       let f = c .before .before in
@@ -35,7 +34,7 @@ storing-requires : tie.Need-storing-requires
 storing-requires c κs = search needs
 
 returns-2 : tie.Need-returns-2
-unfolding Does item stage if_then_else_
+unfolding Does item stage
 returns-2 c = (
   λ t x p is stat.
       let f = c .before .before in

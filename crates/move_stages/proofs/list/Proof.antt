@@ -1,6 +1,5 @@
 -- `list` is the list stage: its test on the mark is that of the definition. Assumes nothing.
 use borrow.Author.Tests.{eq-eqb, ne-eqb}
-use Rattle.model.specs.Lists.{if_then_else_}
 use Rattle.model.specs.Steps.{stage, item}
 use Rattle.cells.specs.Tables.{ownOf}
 use Rattle.cells.specs.Effects.{Does}
@@ -58,7 +57,7 @@ storing-requires : tie.Need-storing-requires
 storing-requires c κs = search needs
 
 returns : tie.Need-returns
-unfolding Does item stage if_then_else_
+unfolding Does item stage
 returns c =
     let f = c .before .before .before .before .before in
     let d = f .before in
@@ -89,7 +88,7 @@ quiet-requires : tie.Need-quiet-requires
 quiet-requires c κs = search needs
 
 returns-2 : tie.Need-returns-2
-unfolding Does item stage if_then_else_
+unfolding Does item stage
 returns-2 c =
     let f = c .before .before in
     let d = f .before in

@@ -1,7 +1,7 @@
 -- `finish` meets its contract. Assumes nothing.
 use mathlib.Core.Path.{_∙_}
 use borrow.Author.Needs.{needs}
-use Rattle.reference.proofs.Laws.{ended-as}
+use Rattle.ending.proofs.Written.{ended-as}
 use Rattle.record_end.proofs.finish.Statement.{statement}
 use Rattle.record_end.proofs.finish.Tie as tie
 

@@ -43,8 +43,8 @@ returns c text es addr old new k =
 enum-told : tie.Need-enum-told
 enum-told c = search needs
 
-add-t17 : tie.Need-add-t17
-add-t17 c = search needs
+add-past : tie.Need-add-past
+add-past c = search needs
 
 returns-2 : tie.Need-returns-2
 returns-2 c text es addr old new k =
@@ -54,9 +54,11 @@ returns-2 c text es addr old new k =
 -- Few records have run beside an accepted text.
 module _ (c : tie.Else1) {text : List ℕ} {es : List Entry} {addr old new : List (List ℕ)}
     (k : Known (start c) text es addr old new) where
+  -- They are few,
   few : length es ≤ 4000
   few = omega (arith, k .counted, c .if1 .left)
 
+  -- and all have run.
   ran : Accepts text (c .before .enum-told .given .0 .0) (now (start c .args .plan))
       × Ran (now (start c .args .plan)) es es (tables (start c) addr old new)
   ran = k .ran _ (c .before .enum-told .given .1) (c .if1 .left)
@@ -84,8 +86,8 @@ cast-accepted c = search needs
 halt-requires : tie.Need-halt-requires
 halt-requires c κs = search needs
 
-add-end-of : tie.Need-add-end-of
-add-end-of c = search needs
+add-place : tie.Need-add-place
+add-place c = search needs
 
 end-of-requires : tie.Need-end-of-requires
 end-of-requires c κs = search needs
@@ -98,15 +100,17 @@ none-other c = c .before .before .before .before .before
 end-so : (c : tie.After-end-of) {text : List ℕ} {es : List Entry} {addr old new : List (List ℕ)}
     → Known (start (none-other c)) text es addr old new →
     let x = tables (start (none-other c)) addr old new in
-    c .end-of .result ≡ endOf (haltOf (bookOf x .halt)) (bookOf x .entries + 1) (length es)
+    c .end-of .result
+    ≡ endOf (haltOf (bookOf x .halt)) (bookOf x .entries + 1) (bookOf x .entries + 1) (length es)
 end-so c {es = es} {addr = addr} {old = old} {new = new} k =
     let x = tables (start (none-other c)) addr old new in
     let h = c .before in
+    let place = h .before .entries .result + 1 in
+    let count = start (none-other c) .args .count in
     c .end-of .ensures
-    ∙ ap (λ n. endOf (haltOf n) (h .before .entries .result + 1) (start (none-other c) .args .count)) (h .halt .ensures)
-    ∙ ap (λ n. endOf (haltOf (bookOf x .halt)) (n + 1) (start (none-other c) .args .count))
-    (h .before .entries .ensures)
-    ∙ ap (endOf (haltOf (bookOf x .halt)) (bookOf x .entries + 1)) (sym (k .counted))
+    ∙ ap (λ n. endOf (haltOf n) place place count) (h .halt .ensures)
+    ∙ ap (λ n. endOf (haltOf (bookOf x .halt)) (n + 1) (n + 1) count) (h .before .entries .ensures)
+    ∙ ap (endOf (haltOf (bookOf x .halt)) (bookOf x .entries + 1) (bookOf x .entries + 1)) (sym (k .counted))
 
 finish-requires : tie.Need-finish-requires
 finish-requires c κs =
@@ -140,15 +144,15 @@ report-of-spec =
     enum-known-verdict
     returns
     enum-told
-    add-t17
+    add-past
     returns-2
     other-requires
     cast-other
     returns-3
     entries-requires
     cast-accepted
+    add-place
     halt-requires
-    add-end-of
     end-of-requires
     finish-requires
     same-length

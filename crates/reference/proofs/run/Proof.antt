@@ -1,7 +1,7 @@
 -- `run` gives the outcome's end by its number and line. Assumes nothing.
 use mathlib.Core.Path.{_∙_}
 use borrow.Author.Needs.{needs}
-use Rattle.reference.proofs.Laws.{ended-as}
+use Rattle.ending.proofs.Written.{ended-as}
 use Rattle.reference.proofs.run.Statement.{statement}
 use Rattle.reference.proofs.run.Tie as tie
 

@@ -1,4 +1,4 @@
--- Stat[k] = N.
+-- `is_finished` tests Stat[k] = N. Assumes nothing.
 use mathlib.Core.Path.{_∙_, ap}
 use native.Mathlib.Omega.{arith}
 use lib.IntN.{pos}

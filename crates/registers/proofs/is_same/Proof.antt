@@ -1,4 +1,4 @@
--- Two versions are the same.
+-- `is_same` tests whether two versions are the same. Assumes nothing.
 use borrow.Author.Tests.{eq-eqb, ne-eqb}
 use Rattle.model.specs.Steps.{sameVersion}
 use Rattle.registers.proofs.is_same.Statement.{statement}

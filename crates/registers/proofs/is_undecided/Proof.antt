@@ -1,4 +1,4 @@
--- Stat[k] = −1.
+-- `is_undecided` tests Stat[k] = −1. Assumes nothing.
 use mathlib.Core.Path.{_∙_, ap}
 use native.Mathlib.Omega.{arith}
 use lib.Dec.{lit<}

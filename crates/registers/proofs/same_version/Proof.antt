@@ -1,4 +1,4 @@
--- V = ver.
+-- `same_version` tests V = ver. Assumes nothing.
 use borrow.Author.Needs.{needs}
 use Rattle.registers.proofs.same_version.Statement.{statement}
 use Rattle.registers.proofs.same_version.Tie as tie

@@ -1,5 +1,5 @@
 -- `run_plan` meets its contract. Assumes nothing.
-use Prim.Native.Nat.{ℕ}
+use Prim.Native.Nat.{ℕ, _+_}
 use mathlib.Core.Path.{_≡_, refl, _∙_, ap}
 use mathlib.Core.List.{List, [], _∷_}
 use denote.Ref.{now}
@@ -63,17 +63,19 @@ ran-at c = c .before .before .before .before .before .before .before
 end-so : (c : tie.After-end-of) →
     let s = start (opened (listed (ran-at c))) in
     c .end-of .result
-    ≡ endOf (haltOf (bookOf (left (ran-at c)) .halt))
+    ≡ endOf (haltOf (bookOf (left (ran-at c)) .halt)) (bookOf (left (ran-at c)) .entries + 1)
     (lineIn (listedIn (s .args .count) (now (s .args .entries))) (bookOf (left (ran-at c)) .entries))
     (s .args .lines)
 end-so c =
     let s = start (opened (listed (ran-at c))) in
+    let ls = listedIn (s .args .count) (now (s .args .entries)) in
     let l = c .before .before .before in
+    let accepted = l .before .entries .result in
     c .end-of .ensures
-    ∙ ap (λ h. endOf (haltOf h) (l .line-of .result) (s .args .lines)) (c .before .halt .ensures)
-    ∙ ap (λ n. endOf (haltOf (bookOf (left (ran-at c)) .halt)) n (s .args .lines))
-    (l .line-of .ensures
-    ∙ ap (lineIn (listedIn (s .args .count) (now (s .args .entries)))) (l .before .entries .ensures))
+    ∙ ap (λ h. endOf (haltOf h) (accepted + 1) (l .line-of .result) (s .args .lines)) (c .before .halt .ensures)
+    ∙ ap (λ n. endOf (haltOf (bookOf (left (ran-at c)) .halt)) (accepted + 1) n (s .args .lines)) (l .line-of .ensures)
+    ∙ ap (λ n. endOf (haltOf (bookOf (left (ran-at c)) .halt)) (n + 1) (lineIn ls n) (s .args .lines))
+    (l .before .entries .ensures)
 
 slice-aggregate-open : tie.Need-slice-aggregate-open
 slice-aggregate-open c = search needs
@@ -106,8 +108,8 @@ run-list-requires c κs =
 entries-requires : tie.Need-entries-requires
 entries-requires c κs = search needs
 
-cast-line-of : tie.Need-cast-line-of
-cast-line-of c = search needs
+cast-accepted : tie.Need-cast-accepted
+cast-accepted c = search needs
 
 line-of-requires : tie.Need-line-of-requires
 line-of-requires c κs =
@@ -116,6 +118,9 @@ line-of-requires c κs =
 
 halt-requires : tie.Need-halt-requires
 halt-requires c κs = search needs
+
+add-end-of : tie.Need-add-end-of
+add-end-of c = search needs
 
 end-of-requires : tie.Need-end-of-requires
 end-of-requires c κs = search needs
@@ -168,9 +173,10 @@ run-plan-spec =
     slice-aggregate-run-list
     run-list-requires
     entries-requires
-    cast-line-of
+    cast-accepted
     line-of-requires
     halt-requires
+    add-end-of
     end-of-requires
     slice-aggregate-finish
     finish-requires

@@ -1,5 +1,5 @@
--- `run_pack` is safe and ends. The loop's invariant: no more cases are counted than bytes were passed, and the room
--- keeps its length. Assumes nothing.
+-- `run_pack` is safe and ends. The loop's invariant: no more cases are counted than bytes were passed. Assumes
+-- nothing.
 use Prim.Native.Nat.{ℕ, _≤_, _-_, _+_}
 use native.Mathlib.Omega.{arith}
 use mathlib.Core.Path.{_≡_, subst}
@@ -16,8 +16,7 @@ use Rattle.vectors.proofs.run_pack.Tie as tie
 abbrev Inv-loop : tie.InvT-loop
 Inv-loop name pack room₀ checks₀ runs₀ run₀ schedules₀ scheduled₀ at₀ room checks runs run schedules scheduled at =
     (at ≤ length pack)
-    × ((checks ≤ run) × ((runs ≤ run) × ((schedules ≤ scheduled)
-    × ((run + scheduled ≤ at) × (length room ≡ length room₀)))))
+    × ((checks ≤ run) × ((runs ≤ run) × ((schedules ≤ scheduled) × (run + scheduled ≤ at))))
 
 abbrev μ-loop : tie.MeasureT-loop
 μ-loop name pack room₀ checks₀ runs₀ run₀ schedules₀ scheduled₀ at₀ room checks runs run schedules scheduled at =
@@ -31,7 +30,7 @@ case-placed at size r p e = subst (Within at size) e
 placed : (c : tie.After-parts Inv-loop μ-loop)
     → Placed
     (c .before .before .before .before .loop .at)
-    (length (now (c .before .before .before .before .before .before .before .before .args .pack)))
+    (length (now (c .before .before .before .before .before .before .before .args .pack)))
     (c .parts .given .0 .0)
 placed c =
     let found = c .before .before .next-case in
@@ -51,9 +50,6 @@ enum-told c = search needs
 
 print-malformed-requires : tie.Need-print-malformed-requires Inv-loop μ-loop
 print-malformed-requires c κs = search needs
-
-same-length : tie.Need-same-length Inv-loop μ-loop
-same-length c = search needs
 
 returns : tie.Need-returns Inv-loop μ-loop
 returns c = search needs
@@ -88,37 +84,31 @@ enum-told-2 c = search needs
 print-malformed-requires-2 : tie.Need-print-malformed-requires-2 Inv-loop μ-loop
 print-malformed-requires-2 c κs = search needs
 
-same-length-2 : tie.Need-same-length-2 Inv-loop μ-loop
-same-length-2 c = search needs
-
 returns-2 : tie.Need-returns-2 Inv-loop μ-loop
 returns-2 c = search needs
 
 loop-less : tie.Need-loop-less Inv-loop μ-loop
 loop-less c =
-    let p = placed (c .before .before .before .before .before .before .before .before .before .before) in
+    let p = placed (c .before .before .before .before .before .before .before .before) in
     omega arith
 
 loop-again : tie.Need-loop-again Inv-loop μ-loop
 loop-again c =
-    let p = placed (c .before .before .before .before .before .before .before .before .before .before) in
-    (omega arith, (omega arith, (omega arith, (omega arith, (omega arith, search needs)))))
+    let p = placed (c .before .before .before .before .before .before .before .before) in
+    (omega arith, (omega arith, (omega arith, (omega arith, omega arith))))
 
 loop-less-2 : tie.Need-loop-less-2 Inv-loop μ-loop
 loop-less-2 c =
-    let p = placed (c .before .before .before .before .before .before .before .before .before) in
+    let p = placed (c .before .before .before .before .before .before .before) in
     omega arith
 
 loop-again-2 : tie.Need-loop-again-2 Inv-loop μ-loop
 loop-again-2 c =
-    let p = placed (c .before .before .before .before .before .before .before .before .before) in
-    (omega arith, (omega arith, (omega arith, (omega arith, (omega arith, search needs)))))
+    let p = placed (c .before .before .before .before .before .before .before) in
+    (omega arith, (omega arith, (omega arith, (omega arith, omega arith))))
 
 print-total-requires : tie.Need-print-total-requires Inv-loop μ-loop
 print-total-requires c κs = search needs
-
-same-length-3 : tie.Need-same-length-3 Inv-loop μ-loop
-same-length-3 c = search needs
 
 returns-3 : tie.Need-returns-3 Inv-loop μ-loop
 returns-3 c = search needs
@@ -134,7 +124,6 @@ run-pack-spec =
     enum-known-parts
     enum-told
     print-malformed-requires
-    same-length
     returns
     run-at-requires
     enum-known-agreed
@@ -146,12 +135,10 @@ run-pack-spec =
     add-scheduled
     enum-told-2
     print-malformed-requires-2
-    same-length-2
     returns-2
     loop-less
     loop-again
     loop-less-2
     loop-again-2
     print-total-requires
-    same-length-3
     returns-3)

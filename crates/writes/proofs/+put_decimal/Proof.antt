@@ -5,8 +5,8 @@ use native.Mathlib.Omega.{arith}
 use borrow.Fn.Kinds.{In}
 use borrow.Fn.PlainCycle.{Measures, is, falls, and}
 use Rattle.text.specs.Decimal.{decimal}
+use Rattle.text.proofs.Digits.{decimal-small, decimal-large, decimal-short, decimal-most}
 use Rattle.writes.proofs.Writes.{then, widen, within, renamed, keeps}
-use Rattle.writes.proofs.Parts.{decimal-small, decimal-large, decimal-short, decimal-most}
 use Rattle.writes.proofs.put_byte.Reads as put-byte
 use Rattle.writes.proofs.put_decimal.Reads as put-decimal
 use Rattle.writes.proofs.put_decimal.Kinds as kinds

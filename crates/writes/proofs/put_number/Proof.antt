@@ -2,8 +2,8 @@
 use native.Mathlib.Omega.{arith}
 use denote.Ref.{now}
 use Rattle.text.specs.Decimal.{decimal}
+use Rattle.text.proofs.Digits.{decimal-most}
 use Rattle.writes.proofs.Writes.{counted}
-use Rattle.writes.proofs.Parts.{decimal-most}
 use borrow.Author.Needs.{needs}
 use Rattle.writes.proofs.put_number.Statement.{statement}
 use Rattle.writes.proofs.put_number.Tie as tie

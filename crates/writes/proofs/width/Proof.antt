@@ -2,7 +2,7 @@
 use mathlib.Core.Path.{sym, ap}
 use native.Mathlib.Omega.{arith}
 use lib.ListN.{length}
-use Rattle.writes.proofs.Parts.{decimal-small, length-decimal}
+use Rattle.text.proofs.Digits.{decimal-small, length-decimal}
 use Rattle.writes.proofs.width.Statement.{statement}
 use Rattle.writes.proofs.width.Tie as tie
 

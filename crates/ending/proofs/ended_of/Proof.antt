@@ -1,7 +1,7 @@
 -- `ended_of` meets its contract. Assumes nothing.
 use borrow.Author.Needs.{needs}
-use Rattle.reference.proofs.ended_of.Statement.{statement}
-use Rattle.reference.proofs.ended_of.Tie as tie
+use Rattle.ending.proofs.ended_of.Statement.{statement}
+use Rattle.ending.proofs.ended_of.Tie as tie
 
 end-number-requires : tie.Need-end-number-requires
 end-number-requires c κs = search needs

@@ -1,0 +1,2 @@
+-- The length that no report exceeds.
+pub mod Longest

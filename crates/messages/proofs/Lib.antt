@@ -1,0 +1,3 @@
+-- Laws that the proofs of this crate cite, and the definitions computed.
+pub mod Sentences
+pub mod Examples

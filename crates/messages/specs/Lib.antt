@@ -1,0 +1,2 @@
+-- A refusal in plain words.
+pub mod Messages

@@ -1,0 +1,2 @@
+-- What the programs print.
+pub mod Printing

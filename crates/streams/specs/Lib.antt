@@ -1,0 +1,2 @@
+-- What reading and writing promise.
+pub mod Streams
