@@ -10,10 +10,10 @@ use lib.Dec.{eqb}
 use lib.IntN.{pos}
 use lib.ListN.{getD, set, drop, length-set, length-drop}
 use lib.Seq.{paste, length-paste}
+use Rattle.text.specs.FirstPlaces.{inFirstPlaces}
 use Rattle.format.specs.Plan.{table}
 use Rattle.layout.specs.PlanTable.{sizesIn, jobAt}
 use Rattle.model.specs.Status.{undecided}
-use Rattle.text.specs.FirstPlaces.{inFirstPlaces}
 use Rattle.model.specs.Machine.{inRow, stored, carriedOut}
 use Rattle.cells.specs.declared.Change.{Change}
 use Rattle.cells.specs.CellTable.{places, annAt, transAt, bankAt, numblksAt, committedAt, runningAt, activeAt}

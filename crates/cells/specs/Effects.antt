@@ -6,13 +6,13 @@ use mathlib.Core.Path.{_≡_}
 use mathlib.Core.List.{List}
 use lib.IntN.{pos}
 use lib.ListN.{length, getD, set, replicate}
+use Rattle.text.specs.FirstPlaces.{inFirstPlaces}
 use Rattle.format.specs.Plan.{Plan}
 use Rattle.layout.specs.PlanTable.{planIn}
 use Rattle.model.specs.declared.Place.{Place}
 use Rattle.model.specs.declared.Store.{Store}
 use Rattle.model.specs.declared.Out.{Out}
 use Rattle.model.specs.Status.{same, undecided}
-use Rattle.text.specs.FirstPlaces.{inFirstPlaces}
 use Rattle.model.specs.Steps.{item, sameVersion, replaced}
 use Rattle.model.specs.Machine.{inRow, carriedOut}
 use Rattle.model.specs.Ranges.{mostNumbers}

@@ -10,9 +10,9 @@ use borrow.Author.Tests.{eq-eqb, ne-eqb}
 use lib.Dec.{eqb}
 use lib.ListN.{length, getD, set, drop, length-append}
 use lib.Seq.{drop-cons, append-snoc, set-append-seam}
+use Rattle.text.specs.FirstPlaces.{inFirstPlaces}
 use Rattle.format.specs.Plan.{table}
 use Rattle.format.proofs.Tables.{length-table}
-use Rattle.text.specs.FirstPlaces.{inFirstPlaces}
 use Rattle.model.specs.Steps.{replaced}
 
 -- One more number in the first places.

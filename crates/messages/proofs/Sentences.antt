@@ -1,5 +1,5 @@
--- What a reference of an array shows, that no sentence of the table is longer than 100 bytes, and what is said of an end.
--- Assumes nothing.
+-- What a reference of an array shows, that no sentence of the table is longer than 100 bytes, and what is said of an
+-- end. Assumes nothing.
 use Prim.Native.Nat.{ℕ, zero, suc, _+_, _≤_, _<_}
 use mathlib.Core.Path.{_≡_, refl, ap, _∙_}
 use mathlib.Core.Bool.{and-false}
@@ -10,8 +10,8 @@ use denote.Ref.{RefT, now}
 use borrow.Author.Tests.{lt-ltb, le-leb, lt-leb}
 use lib.Dec.{ltb, lit≤}
 use lib.ListN.{length, getD}
-use Rattle.io.specs.Counts.{Counts}
 use Rattle.text.specs.FirstPlaces.{inFirstPlaces}
+use Rattle.io.specs.Counts.{Counts}
 use Rattle.writes.specs.Writes.{Writes}
 use Rattle.writes.proofs.Writes.{put-whole, counts, renamed, within}
 use Rattle.messages.specs.Messages.{meanings, meaning, refusalLine, message}

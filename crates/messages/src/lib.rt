@@ -4,8 +4,8 @@ ghost use mathlib.Core.Path.{_≡_};
 ghost use mathlib.Core.List.{[], map};
 ghost use Prim.Native.Nat.{_≤_, _<_, _+_};
 ghost use lib.ListN.{length, getD};
-ghost use Rattle.io.specs.Counts.{Counts};
 ghost use Rattle.text.specs.FirstPlaces.{inFirstPlaces};
+ghost use Rattle.io.specs.Counts.{Counts};
 ghost use Rattle.writes.specs.Writes.{Writes};
 ghost use Rattle.messages.specs.Messages.{meaning, entryPart, place, refusalLine, message};
 

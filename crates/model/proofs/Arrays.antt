@@ -28,9 +28,9 @@ use lib.Seq.{
 }
 use borrow.Author.Tests.{ltb-true, ltb-false, lt-ltb}
 use Rattle.text.proofs.Cases.{by-test}
+use Rattle.text.specs.FirstPlaces.{inFirstPlaces}
 use Rattle.format.specs.Plan.{table}
 use Rattle.format.proofs.Tables.{length-table, getD-table}
-use Rattle.text.specs.FirstPlaces.{inFirstPlaces}
 use Rattle.model.proofs.Update.{upd, upd-elim}
 
 -- A list with an element stored is the function that reads it, changed at that place.

@@ -20,6 +20,7 @@ use lib.ListN.{length, getD, set, drop, replicate, length-set, length-drop, leng
 use lib.Seq.{paste, length-paste}
 use borrow.Author.Tests.{eqb-true, eq-eqb, ltb-true, ltb-false, lt-ltb, le-ltb, leb-false}
 use Rattle.text.proofs.Cases.{by-test, both, neither}
+use Rattle.text.specs.FirstPlaces.{inFirstPlaces}
 use Rattle.format.specs.declared.Entry.{Entry}
 use Rattle.format.specs.Plan.{Plan, jobIn, table}
 use Rattle.format.proofs.Tables.{length-table, getD-table}
@@ -33,7 +34,6 @@ use Rattle.model.specs.declared.Refusal.{Refusal}
 use Rattle.model.specs.declared.Judgement.{Judgement}
 use Rattle.model.specs.Places.{isActive}
 use Rattle.model.specs.Working.{noWork, opening, called}
-use Rattle.text.specs.FirstPlaces.{inFirstPlaces}
 use Rattle.model.specs.Steps.{item}
 use Rattle.model.specs.Machine as machine
 use Rattle.model.specs.Machine.{

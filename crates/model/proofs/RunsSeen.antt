@@ -19,6 +19,7 @@ use lib.ListN.{length, getD, set, drop, length-set, drop-of-length-le, length-ma
 use lib.Seq.{drop-cons}
 use borrow.Author.Tests.{ltb-true, ltb-false}
 use Rattle.text.proofs.Cases.{by-test}
+use Rattle.text.specs.FirstPlaces.{inFirstPlaces}
 use Rattle.format.specs.declared.Move.{Move}
 use Rattle.format.specs.Plan.{Plan, table}
 use Rattle.format.proofs.Tables.{table-more}
@@ -42,7 +43,6 @@ use Rattle.model.specs.Moves.{
   onward,
 }
 use Rattle.model.specs.Working.{goto, taking, withAccess, listing, copying, cleared}
-use Rattle.text.specs.FirstPlaces.{inFirstPlaces}
 use Rattle.model.specs.Steps.{replaced}
 use Rattle.model.proofs.Update.{upd, upd-same, upd-other, upd-id, upd-ap}
 use Rattle.model.proofs.Arrays.{getD-set, getD-all, first-places-at}

@@ -6,6 +6,7 @@ use mathlib.Core.List.{List, []}
 use lib.IntN.{pos}
 use lib.ListN.{length, getD, set, drop, replicate}
 use lib.Seq.{paste}
+use Rattle.text.specs.FirstPlaces.{inFirstPlaces}
 use Rattle.format.specs.Plan.{Plan, table}
 use Rattle.model.specs.declared.Working.{Working}
 use Rattle.model.specs.declared.Cells.{Cells}
@@ -13,7 +14,6 @@ use Rattle.model.specs.declared.Store.{Store}
 use Rattle.model.specs.declared.Out.{Out}
 use Rattle.model.specs.Working.{noWork, opening}
 use Rattle.model.specs.Cells.{withV, withAnn, withStat, withTrans, withBank, withNumblks}
-use Rattle.text.specs.FirstPlaces.{inFirstPlaces}
 use Rattle.model.specs.Steps.{Shared, item}
 
 -- The state: the cells, every job's working record, the store, and the rows, by job and place.

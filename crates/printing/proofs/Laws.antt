@@ -7,6 +7,7 @@ use native.Mathlib.Nat.{zero-add}
 use native.Mathlib.Omega.{arith}
 use borrow.Author.Tests.{le-leb}
 use lib.ListN.{length, length-map}
+use Rattle.text.specs.FirstPlaces.{inFirstPlaces}
 use Rattle.io.specs.Counts.{Counts}
 use Rattle.format.specs.declared.Entry.{Entry}
 use Rattle.format.specs.declared.Form.{Form}
@@ -15,7 +16,6 @@ use Rattle.format.specs.Plan.{Listed}
 use Rattle.format.specs.Reading.{Reading, refusal, accepted, reading, verdictOf}
 use Rattle.format.proofs.Sound.{accepted-sound, accepted-few}
 use Rattle.format.proofs.Lines.{low-count, low-lines, low-refused}
-use Rattle.text.specs.FirstPlaces.{inFirstPlaces}
 use Rattle.model.specs.History.{runOf}
 use Rattle.model.proofs.Reached.{always}
 use Rattle.runs.specs.declared.End.{End}

@@ -1,9 +1,9 @@
 // What the programs print: public functions that fill a buffer of fixed length with the bytes. None has a `requires`,
 // and none is handed a state.
 ghost use mathlib.Core.Path.{_≡_};
+ghost use Rattle.text.specs.FirstPlaces.{inFirstPlaces};
 ghost use Rattle.format.specs.Reading.{reading, verdictOf};
 ghost use Rattle.io.specs.Counts.{Counts};
-ghost use Rattle.text.specs.FirstPlaces.{inFirstPlaces};
 ghost use Rattle.runs.specs.Runs.{runText, printed};
 ghost use Rattle.printing.specs.Printing.{runAnswer, checkPrinted, checkAnswer};
 use format::Form;

@@ -6,8 +6,8 @@ use native.Mathlib.Omega.{arith}
 use lib.Dec.{eqb}
 use lib.ListN.{length, getD, set, drop, replicate}
 use lib.Seq.{getD-drop}
-use Rattle.format.specs.Plan.{table}
 use Rattle.text.specs.FirstPlaces.{inFirstPlaces}
+use Rattle.format.specs.Plan.{table}
 use Rattle.model.specs.Steps.{replaced}
 use Rattle.model.proofs.Tests.{either}
 

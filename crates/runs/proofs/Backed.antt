@@ -1,5 +1,5 @@
--- The end, the commits and the words that a report prints are those of a run that demand 3 holds of, whether the entries
--- stand in the text or come as records. Assumes nothing.
+-- The end, the commits and the words that a report prints are those of a run that demand 3 holds of, whether the
+-- entries stand in the text or come as records. Assumes nothing.
 use Prim.Native.Nat.{ℕ, _+_, _≤_}
 use mathlib.Core.Path.{_≡_, _∙_, ap, subst}
 use mathlib.Core.List.{List, map}

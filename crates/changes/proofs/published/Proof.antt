@@ -5,8 +5,8 @@ use native.Mathlib.Omega.{arith}
 use lib.ListN.{length, getD}
 use denote.Ref.{now}
 use borrow.Author.Needs.{needs}
-use Rattle.format.specs.Plan.{table}
 use Rattle.text.specs.FirstPlaces.{inFirstPlaces}
+use Rattle.format.specs.Plan.{table}
 use Rattle.cells.specs.CellTable.{places, currAt}
 use Rattle.changes.proofs.FirstPlaces.{one-more-of}
 use Rattle.changes.proofs.published.Statement.{statement}
