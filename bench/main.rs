@@ -1,7 +1,8 @@
 // Times the proved machine against the plain one of plain.rs, on a full plan with 4,000 accepted entries, as a text and
 // as records beside the plan's text. From the project's root:
 //
-// rt staticlib library && rustc -O bench/main.rs -L target/staticlib -l static=library -o target/bench && target/bench
+// rt staticlib public_point_memory
+// rustc -O bench/main.rs -L target/staticlib -l static=public_point_memory -o target/bench && target/bench
 //
 // Both have to give the report in bench-full.report before anything is timed; as records its last line counts those. A
 // run is the whole way from the text, or from the plan's text and the records, to the report. The schedule is then cut

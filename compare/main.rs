@@ -1,8 +1,8 @@
 // Compares the proved library with the plain implementation of bench/plain.rs on random and damaged texts and schedules
 // (cases.rs), the same ones in every run. From the project's root:
 //
-// rt staticlib library
-// rustc -O compare/main.rs -L target/staticlib -l static=library -o target/compare && target/compare
+// rt staticlib public_point_memory
+// rustc -O compare/main.rs -L target/staticlib -l static=public_point_memory -o target/compare && target/compare
 //
 // A case is a text, or a plan's text and records, with a lent buffer of some room. Both checks are asked of the text,
 // and it is run; the answers have to be the same, and so has every byte of the buffer and beside it. The cases are

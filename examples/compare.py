@@ -1,9 +1,10 @@
-"""Compares a card model with the proved library after each entry of a schedule, and says at which entry they part.
+r"""Compares a card model with the proved library after each entry of a schedule, and says at which entry they part.
 
 From the project's root, once:
 
-    rt staticlib library
-    cc -shared -Wl,--whole-archive target/staticlib/liblibrary.a -Wl,--no-whole-archive -o target/libpoint_memory.so
+    rt staticlib public_point_memory
+    cc -shared -Wl,--whole-archive target/staticlib/libpublic_point_memory.a -Wl,--no-whole-archive \
+        -o target/libpoint_memory.so
 
 Then, for a text with a plan and its schedule:
 

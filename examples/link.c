@@ -2,8 +2,9 @@
  * Links the library from C: runs a text, then the same schedule as records beside the plan's text, and prints both
  * reports. The status is 0 only if they are what document 01 says. From the project's root:
  *
- * rt staticlib library
- * cc -std=c99 -O2 -I include examples/link.c -L target/staticlib -l:liblibrary.a -o target/link_c && target/link_c
+ * rt staticlib public_point_memory
+ * cc -std=c99 -O2 -I include examples/link.c -L target/staticlib -l:libpublic_point_memory.a -o target/link_c
+ * target/link_c
  */
 #include <point_memory.h>
 #include <stdio.h>

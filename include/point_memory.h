@@ -1,7 +1,8 @@
 /*
- * The point memory machine for C (C99 and later) and C++: check a text, run a text, run a schedule of records. The
- * library is built by `rt staticlib library` and linked as target/staticlib/liblibrary.a; examples/link.c shows how.
- * Every function is proved to answer what document 01 says, for all bytes, records and lengths handed in.
+ * The point memory machine for C (C99 and later) and C++: check a text, run a text, run a schedule of records.
+ * `rt staticlib public_point_memory` builds the library, target/staticlib/libpublic_point_memory.a; examples/link.c
+ * shows how it is linked. Every function is proved to answer what the definitions of document 01 say, for all bytes,
+ * records and lengths handed in; docs/TRUST.md says what that rests on.
  *
  * What a caller must ensure:
  *
@@ -16,8 +17,8 @@
  * state is handed in, and none is kept between calls. Nothing is locked and nothing is allocated on the heap, so
  * several threads may call at once, each with a buffer of its own. A call neither keeps nor frees what it was lent.
  *
- * The numbers that are answered, the first line with a fault counting, and in it the lowest number (the whole table is
- * in document 01):
+ * The numbers. Of 1 to 10 the first faulty line counts, and in it the lowest number; docs/MANUAL.md says how to mend
+ * each:
  *
  *    0  accepted; line is the count of all lines, or of all records
  *    1  text over 65,536 bytes (line 0)
@@ -70,7 +71,8 @@ typedef struct {
 #define POINT_MEMORY_CALL 0
 #define POINT_MEMORY_STEP 1
 
-/* An entry as a record. A call has the job and the update; a step has the card, its second number is unused. */
+/* An entry as a record: a call of job `first` with update `second`, or a step of card `first`; a step's `second` is not
+   looked at. */
 typedef struct {
     uint32_t kind;
     uint32_t first;

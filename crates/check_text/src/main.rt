@@ -1,22 +1,22 @@
 // Checks the text on standard input and writes its answer, `end number line`, to standard output; of a refusal a line
 // on standard error says in plain words what it means.
-use messages::MESSAGE;
-use printing::ANSWER;
-use streams::TEXT;
+use program_streams::TEXT;
+use public_messages::MESSAGE;
+use public_printing::ANSWER;
 
 // Reads the text, checks it as a plan with its schedule and writes the answer.
 fn main() {
     let mut text = [0u8; TEXT];
-    let input = streams::read_input(&mut text);
+    let input = program_streams::read_input(&mut text);
     if input.failed {
         return;
     }
     let length = input.length;
     let mut output = [0u8; ANSWER];
-    let printed = printing::print_check(&text[..length], &mut output);
+    let printed = public_printing::print_check(&text[..length], &mut output);
     let written = printed.length;
-    streams::write_output(&output[..written]);
+    program_streams::write_output(&output[..written]);
     let mut message = [0u8; MESSAGE];
-    let said = messages::explain(printed.number, printed.line, printed.entry, &mut message);
-    streams::write_message(&message[..said]);
+    let said = public_messages::explain(printed.number, printed.line, printed.entry, &mut message);
+    program_streams::write_message(&message[..said]);
 }

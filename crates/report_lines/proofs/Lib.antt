@@ -1,3 +1,3 @@
 -- Laws that the proofs of this crate cite.
-pub mod Parts
-pub mod Statuses
+pub mod BlockWords
+pub mod PrintedStatus

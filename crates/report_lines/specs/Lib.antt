@@ -1,2 +1,2 @@
 -- The report's lines.
-pub mod Lines
+pub mod ReportLines

@@ -6,23 +6,23 @@ ghost use mathlib.Core.List.{[]};
 ghost use Prim.Native.Nat.{ℕ, _≤_, _<_, _+_, _*_};
 ghost use lib.IntN.{pos};
 ghost use lib.ListN.{length, getD, take};
-ghost use Rattle.text.specs.Bytes.{bytes};
-ghost use Rattle.layout.specs.PlanTable.{sizesIn};
-ghost use Rattle.model.specs.Machine.{blockIn};
-ghost use Rattle.model.specs.Ranges.{mostNumbers, StatusIn};
-ghost use Rattle.runs.specs.Report.{lineOf, statusBytes};
-ghost use Rattle.cells.specs.CellTable.{places, bankAt, activeAt};
-ghost use Rattle.writes.specs.Writes.{Writes};
-ghost use Rattle.report_lines.specs.Lines.{rowLines, blocksBytes, openBytes, opensBytes, endBytes};
-use cells::CELL_PLACES;
-use layout::PLAN_PLACES;
+ghost use Rattle.spec_text.specs.Bytes.{bytes};
+ghost use Rattle.read_tables.specs.PlanTable.{sizesIn};
+ghost use Rattle.spec_machine.specs.Machine.{blockIn};
+ghost use Rattle.spec_machine.specs.Ranges.{mostNumbers, StatusIn};
+ghost use Rattle.spec_report.specs.Report.{lineOf, statusBytes};
+ghost use Rattle.step_cells.specs.CellTable.{places, bankAt, activeAt};
+ghost use Rattle.report_bytes.specs.Writes.{Writes};
+ghost use Rattle.report_lines.specs.ReportLines.{rowLines, blocksBytes, openBytes, opensBytes, endBytes};
+use read_tables::PLAN_PLACES;
+use step_cells::CELL_PLACES;
 
 // "`commit entry job update`": the line of a row.
 fn put_commit(buffer: &mut [u8], at: usize, row: [u32; 3]) -> usize
     requires { ⌜ at + 40 ≤ 4294967296 ⌝ }
     ensures { λ r. ⌜ Writes (lineOf (bytes "commit") row) 40 at (now (buffer .entry)) r (now (buffer .exit)) ⌝ }
 {
-    writes::put_line(buffer, at, b"commit", &row)
+    report_bytes::put_line(buffer, at, b"commit", &row)
 }
 
 // "entries counted from 1, in commit order": the lines of the first n rows.
@@ -49,7 +49,7 @@ fn put_block(buffer: &mut [u8], at: usize, words: usize, number: usize, store: &
 {
     let start = number * words;
     let end = start + words;
-    writes::put_line(buffer, at, b"block", &store[start..end])
+    report_bytes::put_line(buffer, at, b"block", &store[start..end])
 }
 
 // "B lines `block` with the words seen through the bank".
@@ -66,11 +66,11 @@ pub fn put_blocks(
         (blocksBytes (sizesIn (now (plan .entry))) (places (now (cells .entry)) bankAt 16) (now (store .entry))) 3200 at
         (now (buffer .entry)) r (now (buffer .exit)) ⌝ }
 {
-    let sizes = layout::sizes(plan);
+    let sizes = read_tables::sizes(plan);
     let mut next = at;
     let mut b = 0;
     while b < sizes.blocks {
-        let number = cells::bank(cells, b as u32) as usize;
+        let number = step_cells::bank(cells, b as u32) as usize;
         next = put_block(buffer, next, sizes.words, number, store);
         b += 1;
     }
@@ -78,15 +78,15 @@ pub fn put_blocks(
 }
 
 // A status, "−1 printed as `-1`".
-fn put_status(buffer: &mut [u8], at: usize, status: i32) -> usize
+fn put_job_status(buffer: &mut [u8], at: usize, status: i32) -> usize
     requires { ⌜ (at + 11 ≤ 4294967296) × StatusIn 16 status ⌝ }
     ensures { λ r. ⌜ Writes (statusBytes status) 11 at (now (buffer .entry)) r (now (buffer .exit)) ⌝ }
 {
     if status == -1 {
-        let next = writes::put_byte(buffer, at, 45);
-        return writes::put_decimal(buffer, next, 1);
+        let next = report_bytes::put_byte(buffer, at, 45);
+        return report_bytes::put_decimal(buffer, next, 1);
     }
-    writes::put_decimal(buffer, at, status as u32)
+    report_bytes::put_decimal(buffer, at, status as u32)
 }
 
 // "`open job status`" of a job, where it is active.
@@ -97,12 +97,12 @@ fn put_open(buffer: &mut [u8], at: usize, active: bool, k: usize, status: i32) -
     if !active {
         return at;
     }
-    let tab = writes::put_bytes(buffer, at, b"open");
-    let job = writes::put_byte(buffer, tab, 9);
-    let second = writes::put_decimal(buffer, job, k as u32);
-    let value = writes::put_byte(buffer, second, 9);
-    let end = put_status(buffer, value, status);
-    writes::put_byte(buffer, end, 10)
+    let tab = report_bytes::put_bytes(buffer, at, b"open");
+    let job = report_bytes::put_byte(buffer, tab, 9);
+    let second = report_bytes::put_decimal(buffer, job, k as u32);
+    let value = report_bytes::put_byte(buffer, second, 9);
+    let end = put_job_status(buffer, value, status);
+    report_bytes::put_byte(buffer, end, 10)
 }
 
 // "`open job status` for each active job, by job number".
@@ -119,11 +119,11 @@ pub fn put_opens(
         (opensBytes (sizesIn (now (plan .entry)) .jobs) (now (stat .entry)) (places (now (cells .entry)) activeAt 16))
         640 at (now (buffer .entry)) r (now (buffer .exit)) ⌝ }
 {
-    let jobs = layout::jobs(plan) as usize;
+    let jobs = read_tables::jobs(plan) as usize;
     let mut next = at;
     let mut k = 0;
     while k < jobs {
-        next = put_open(buffer, next, cells::is_active(cells, k), k, stat[k]);
+        next = put_open(buffer, next, step_cells::is_active(cells, k), k, stat[k]);
         k += 1;
     }
     next
@@ -135,5 +135,5 @@ pub fn put_end(buffer: &mut [u8], at: usize, number: u32, line: u32) -> usize
     ensures { λ r. ⌜ Writes (endBytes number line) 40 at (now (buffer .entry)) r (now (buffer .exit)) ⌝ }
 {
     let numbers = [number, line];
-    writes::put_line(buffer, at, b"end", &numbers)
+    report_bytes::put_line(buffer, at, b"end", &numbers)
 }

@@ -1,6 +1,6 @@
 -- The laws of a run of records.
-pub mod Onward
+pub mod NextEntry
 pub mod Others
-pub mod Steps
-pub mod Turns
+pub mod OneEntry
+pub mod OneAfterAnother
 pub mod Starting

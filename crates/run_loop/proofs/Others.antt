@@ -10,10 +10,10 @@ use mathlib.Core.Option.{Option, none, some}
 use borrow.Author.Tests.{ne-eqb, lt-ltb, le-ltb}
 use lib.Dec.{eqb, ltb}
 use lib.ListN.{length}
-use Rattle.format.specs.declared.Entry.{Entry}
-use Rattle.runs.specs.Runs.{isOther, otherFrom}
-use Rattle.judge.specs.Rulings.{otherAfter}
-use Rattle.run_loop.specs.Reached.{placeOf}
+use Rattle.spec_format.specs.declared.Entry.{Entry}
+use Rattle.spec_report.specs.Outcomes.{isOther, otherFrom}
+use Rattle.run_judge.specs.Rulings.{otherAfter}
+use Rattle.run_loop.specs.RunReached.{placeOf}
 
 -- The first of two places, where there is one.
 abbrev orElse : Option ℕ → Option ℕ → Option ℕ

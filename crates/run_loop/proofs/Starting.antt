@@ -6,21 +6,21 @@ use mathlib.Core.List.{List, []}
 use native.Mathlib.Omega.{arith}
 use lib.IntN.{ℤ}
 use lib.ListN.{length, take, replicate, length-replicate}
-use Rattle.format.specs.declared.Entry.{Entry}
-use Rattle.format.specs.Sound.{Sound}
-use Rattle.layout.specs.PlanTable.{planIn}
-use Rattle.model.specs.declared.Cells.{Cells}
-use Rattle.model.specs.Machine.{Machine, openingOf}
-use Rattle.model.specs.History.{begun, runOf}
-use Rattle.model.proofs.Sizes.{Sized}
-use Rattle.model.proofs.Lists.{sized-opening}
-use Rattle.cells.specs.Tables.{Tables, Whole, lent, idle, machineOf}
-use Rattle.cells.specs.Book.{bookOf}
-use Rattle.judge.specs.Turns.{Turns}
-use Rattle.judge.specs.Rulings.{haltOf}
-use Rattle.judge.proofs.Turned.{turns-opening}
-use Rattle.run_loop.specs.Reached.{placeOf, Reached, Starts}
-use Rattle.open_tables.specs.Opened.{emptyRows, Blank, Opened}
+use Rattle.spec_format.specs.declared.Entry.{Entry}
+use Rattle.spec_format.specs.Sound.{Sound}
+use Rattle.read_tables.specs.PlanTable.{planIn}
+use Rattle.spec_machine.specs.declared.Cells.{Cells}
+use Rattle.spec_machine.specs.Machine.{Machine, openingOf}
+use Rattle.spec_machine.specs.History.{begun, runOf}
+use Rattle.spec_machine.proofs.Sizes.{Sized}
+use Rattle.spec_machine.proofs.ListMachine.{sized-opening}
+use Rattle.step_cells.specs.Tables.{Tables, Whole, lent, idle, machineOf}
+use Rattle.step_cells.specs.Book.{bookOf}
+use Rattle.run_judge.specs.WhoRuns.{WhoRuns}
+use Rattle.run_judge.specs.Rulings.{haltOf}
+use Rattle.run_judge.proofs.WhoRuns.{who-runs-opening}
+use Rattle.run_loop.specs.RunReached.{placeOf, Reached, Starts}
+use Rattle.run_opening.specs.Opened.{emptyRows, Blank, Opened}
 
 module _ {t cells : List ℕ} {stat : List ℤ} {store : List ℕ} (ok : Sound (planIn t))
     (o : Opened t cells stat store) (all : List Entry) (few : length all ≤ 4000) (commits : List (List ℕ))
@@ -63,9 +63,9 @@ module _ {t cells : List ℕ} {stat : List ℤ} {store : List ℕ} (ok : Sound (
       record {
         machine-is = opens;
         stopped-by = ap haltOf (blank .halt);
-        turns =
-            subst (λ (m : Machine). Turns t m (bookOf x)) (sym opens)
-            (turns-opening t (bookOf x) (blank .active) (blank .running));
+        who-runs =
+            subst (λ (m : Machine). WhoRuns t m (bookOf x)) (sym opens)
+            (who-runs-opening t (bookOf x) (blank .active) (blank .running));
         counted = blank .entries;
         few-done = omega (arith, blank .entries);
         few-rows = omega (arith, blank .committed);

@@ -1,3 +1,3 @@
 -- The commits as rows, and how far a run of records has come.
-pub mod Rows
-pub mod Reached
+pub mod CommitRows
+pub mod RunReached

@@ -2,11 +2,11 @@
 // over it runs them one by one. A text's entries are run by the same loop.
 ghost use Prim.Native.Nat.{_≤_, _<_};
 ghost use lib.ListN.{length, take};
-ghost use Rattle.cells.specs.Tables.{lent};
-ghost use Rattle.run_loop.specs.Reached.{Starts, Ran};
-use cells::CELL_PLACES;
-use format::Entry;
-use layout::PLAN_PLACES;
+ghost use Rattle.step_cells.specs.Tables.{lent};
+ghost use Rattle.run_loop.specs.RunReached.{Starts, Ran};
+use read_tables::PLAN_PLACES;
+use spec_format::Entry;
+use step_cells::CELL_PLACES;
 
 // The first n records run, one after another. The jobs' registers are kept here.
 pub fn run_records<'e, 'a, 'b>(
@@ -30,13 +30,13 @@ pub fn run_records<'e, 'a, 'b>(
         (lent (now (cells .exit)) (now (stat .exit)) (now (store .exit)) (now (addr .exit)) (now (old .exit))
         (now (new .exit)) (now (commits .exit)))) ⌝ }
 {
-    let first = registers::idle();
+    let first = step_registers::idle();
     let mut works = [first; 16];
     let mut i = 0;
     while i < n {
-        let ruling = judge::judge_record(plan, cells, i + 1, records[i]);
-        let job = judge::changed(ruling);
-        where_kept::act_where_kept(
+        let ruling = run_judge::judge_record(plan, cells, i + 1, records[i]);
+        let job = run_judge::changed(ruling);
+        run_entry_in_place::act_where_kept(
             &mut works[job],
             plan,
             ruling,

@@ -1,2 +1,2 @@
 -- The laws of an item by its place.
-pub mod Laws
+pub mod ItemAtPlace

@@ -4,15 +4,15 @@ use Prim.Native.Nat.{ℕ, _≤_, _<_}
 use mathlib.Core.Path.{_≡_}
 use mathlib.Core.List.{List}
 use lib.ListN.{length, getD}
-use Rattle.layout.specs.PlanTable.{updatesIn}
-use Rattle.model.specs.declared.Place.{Place}
-use Rattle.model.specs.Machine.{inRow}
-use Rattle.model.specs.Ranges.{Names, mostNumbers}
-use Rattle.cells.specs.declared.Registers.{Registers}
-use Rattle.cells.specs.CellTable.{places, transAt}
-use Rattle.cells.specs.Tables.{Tables}
-use Rattle.cells.specs.Effects.{Reclaims}
-use Rattle.cells.specs.Fits.{PlanFits, CellsFit, RegistersFit, InMove, RoomAt}
+use Rattle.read_tables.specs.PlanTable.{updatesIn}
+use Rattle.spec_machine.specs.declared.Place.{Place}
+use Rattle.spec_machine.specs.Machine.{inRow}
+use Rattle.spec_machine.specs.Ranges.{Names, mostNumbers}
+use Rattle.step_cells.specs.declared.Registers.{Registers}
+use Rattle.step_cells.specs.CellTable.{places, transAt}
+use Rattle.step_cells.specs.Tables.{Tables}
+use Rattle.step_cells.specs.Effects.{Reclaims}
+use Rattle.step_cells.specs.Fits.{PlanFits, CellsFit, RegistersFit, InMove, RoomAt}
 
 -- What a place asks besides.
 abbrev pub ReadyAt : List ℕ → ℕ → Registers → Tables → Place → Type 0

@@ -1,14 +1,14 @@
 // The step list: one item of a job, by its place.
 ghost use mathlib.Core.List.{List};
 ghost use Prim.Native.Nat.{ℕ};
-ghost use Rattle.cells.specs.Tables.{lent};
-ghost use Rattle.cells.specs.Effects.{Does, Inside, Room};
+ghost use Rattle.step_cells.specs.Tables.{lent};
+ghost use Rattle.step_cells.specs.Effects.{Does, ChangeInside, Room};
 ghost use Rattle.step_list.specs.Ready.{Ready};
-use cells::CELL_PLACES;
-use cells::Effect;
-use cells::Registers;
-use layout::PLAN_PLACES;
-use model::Place;
+use read_tables::PLAN_PLACES;
+use spec_machine::Place;
+use step_cells::CELL_PLACES;
+use step_cells::Effect;
+use step_cells::Registers;
 
 // The item that job p stands before, whose registers are w.
 pub fn item(
@@ -27,34 +27,34 @@ pub fn item(
     ensures { λ r. ⌜ ((commits : List (List ℕ)) → Does (w .place) (now (plan .entry))
         (lent (now (cells .entry)) (now (stat .entry)) (now (store .entry)) (now (addr .entry)) (now (old .entry))
         (now (new .entry)) commits) p w r) ⌝ }
-    ensures { λ r. ⌜ Inside (r .registers) (r .change) ⌝ }
+    ensures { λ r. ⌜ ChangeInside (r .registers) (r .change) ⌝ }
     ensures { λ r. ⌜ ((commits : List (List ℕ)) → Room
         (lent (now (cells .entry)) (now (stat .entry)) (now (store .entry)) (now (addr .entry)) (now (old .entry))
         (now (new .entry)) commits) p (r .change)) ⌝ }
 {
     let place = w.place;
     match place {
-        Place::Idle => registers::quiet(w),
-        Place::A1 => announce::a1(w),
-        Place::A2 => announce::a2(w),
-        Place::A4 => announce::a4(plan, cells, p, w),
-        Place::A7 => announce::a7(plan, cells, stat, p, w),
-        Place::A10 => announce::a10(plan, cells, stat, p, w),
-        Place::A12 => announce::a12(cells, w),
-        Place::A14 => announce::a14(plan, p, w),
-        Place::A15 => announce::a15(plan, p, w),
-        Place::H16 => help::h16(plan, cells, p, w),
-        Place::H17 => help::h17(plan, stat, p, w),
-        Place::H21 => help::h21(plan, cells, w),
-        Place::Move(st) => move_stages::stage(st, plan, cells, stat, store, p, w),
-        Place::H22 => help::h22(w),
-        Place::H25 => help::h25(cells, stat, w),
-        Place::H32 => commit::h32(plan, stat, p, w),
-        Place::H34 => commit::h34(cells, p, w),
-        Place::H36 => commit::h36(cells, w),
-        Place::H37 => commit::h37(plan, stat, p, w),
-        Place::H38 => commit::h38(w, addr, old, new),
-        Place::H41 => commit::h41(cells, w),
-        Place::H42 => commit::h42(cells, stat, w),
+        Place::Idle => step_registers::quiet(w),
+        Place::A1 => step_announce::a1(w),
+        Place::A2 => step_announce::a2(w),
+        Place::A4 => step_announce::a4(plan, cells, p, w),
+        Place::A7 => step_announce::a7(plan, cells, stat, p, w),
+        Place::A10 => step_announce::a10(plan, cells, stat, p, w),
+        Place::A12 => step_announce::a12(cells, w),
+        Place::A14 => step_announce::a14(plan, p, w),
+        Place::A15 => step_announce::a15(plan, p, w),
+        Place::H16 => step_help::h16(plan, cells, p, w),
+        Place::H17 => step_help::h17(plan, stat, p, w),
+        Place::H21 => step_help::h21(plan, cells, w),
+        Place::Move(st) => step_move_stages::stage(st, plan, cells, stat, store, p, w),
+        Place::H22 => step_help::h22(w),
+        Place::H25 => step_help::h25(cells, stat, w),
+        Place::H32 => step_commit::h32(plan, stat, p, w),
+        Place::H34 => step_commit::h34(cells, p, w),
+        Place::H36 => step_commit::h36(cells, w),
+        Place::H37 => step_commit::h37(plan, stat, p, w),
+        Place::H38 => step_commit::h38(w, addr, old, new),
+        Place::H41 => step_commit::h41(cells, w),
+        Place::H42 => step_commit::h42(cells, stat, w),
     }
 }

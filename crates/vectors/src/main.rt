@@ -9,17 +9,17 @@
 // numbers, a kind and two more, parted by one space.
 ghost use Prim.Native.Nat.{_+_, _≤_, _<_};
 ghost use lib.ListN.{length};
-ghost use Rattle.cases.specs.Places.{Placed};
-use agreement::Ending;
-use cases::Next;
-use cases::Parts;
-use cases::RECORDS;
-use cases::Records;
-use cases::Room;
-use ending::Ended;
-use format::Entry;
-use printing::OUTPUT;
-use reference::Answer;
+ghost use Rattle.vectors_cases.specs.CaseParts.{CasePlaced};
+use public_printing::OUTPUT;
+use public_reference::Answer;
+use report_ending::Ended;
+use spec_format::Entry;
+use vectors_agreement::Ending;
+use vectors_cases::Next;
+use vectors_cases::Parts;
+use vectors_cases::RECORDS;
+use vectors_cases::Records;
+use vectors_cases::Room;
 
 // More bytes than the largest pack has.
 const ROOM: usize = 1400000;
@@ -31,7 +31,7 @@ struct Agreed {
 }
 
 // What became of a case.
-enum Outcome {
+enum CaseResult {
     Ran(Agreed),
     Scheduled(bool),
     Malformed,
@@ -48,7 +48,7 @@ fn run_schedule(
     requires { ⌜ (count ≤ 4002) × (n ≤ length (now room)) ⌝ }
     ensures { λ r. ⌜ r .length ≤ n ⌝ }
 {
-    record_array::run_first(text, entries, count, &mut room[..n])
+    vectors_records::run_first(text, entries, count, &mut room[..n])
 }
 
 // Runs the plan's text of a case with its records, with n bytes lent, and compares.
@@ -61,21 +61,21 @@ fn try_schedule(
     end: Answer,
     room: &mut [u8],
     n: usize,
-) -> Outcome
+) -> CaseResult
     requires { ⌜ n ≤ length (now room) ⌝ }
 {
     let count = records.count;
     if records.malformed {
-        return Outcome::Malformed;
+        return CaseResult::Malformed;
     }
     if count > RECORDS {
-        return Outcome::Malformed;
+        return CaseResult::Malformed;
     }
     let entries = records.entries;
-    cases::fill(room, agreement::MARKER);
+    vectors_cases::fill(room, vectors_agreement::MARKER);
     let ended = run_schedule(text, entries, count, room, n);
-    let agrees = agreement::compare_run(pack_name, case_name, output, end, ended, room);
-    Outcome::Scheduled(agrees)
+    let agrees = vectors_agreement::compare_run(pack_name, case_name, output, end, ended, room);
+    CaseResult::Scheduled(agrees)
 }
 
 // Checks and runs one case of a pack, and once more as the program does where all of the room is lent.
@@ -86,29 +86,30 @@ fn run_case(
     records: &[u8],
     output: &[u8],
     room: &mut [u8; OUTPUT],
-) -> Outcome {
-    let Room::Bytes(n) = cases::room_of(cases::word(header, b' ', 3), OUTPUT) else {
-        return Outcome::Malformed;
+) -> CaseResult {
+    let Room::Bytes(n) = vectors_cases::room_of(vectors_cases::word(header, b' ', 3), OUTPUT) else {
+        return CaseResult::Malformed;
     };
     if n > OUTPUT {
-        return Outcome::Malformed;
+        return CaseResult::Malformed;
     }
-    let Ending::Read(end) = agreement::read_ending(cases::last_line(output)) else {
-        return Outcome::Malformed;
+    let Ending::Read(end) = vectors_agreement::read_ending(vectors_cases::last_line(output)) else {
+        return CaseResult::Malformed;
     };
-    let case_name = cases::word(header, b' ', 1);
-    let kind = cases::word(header, b' ', 2);
+    let case_name = vectors_cases::word(header, b' ', 1);
+    let kind = vectors_cases::word(header, b' ', 2);
     if check::same(kind, b"schedule") {
-        let entries = cases::read_records(records);
+        let entries = vectors_cases::read_records(records);
         return try_schedule(pack_name, case_name, text, entries, output, end, room, n);
     }
     if !check::same(kind, b"run") {
-        return Outcome::Malformed;
+        return CaseResult::Malformed;
     }
-    let checked = agreement::check_case(pack_name, case_name, text, end);
-    let ran = agreement::try_case(pack_name, case_name, text, output, end, room, n);
-    let printed = n < OUTPUT || agreement::try_print(pack_name, case_name, text, output, end, room);
-    Outcome::Ran(Agreed {
+    let checked = vectors_agreement::check_case(pack_name, case_name, text, end);
+    let ran = vectors_agreement::try_case(pack_name, case_name, text, output, end, room, n);
+    let printed = n < OUTPUT
+        || vectors_agreement::try_print(pack_name, case_name, text, output, end, room);
+    CaseResult::Ran(Agreed {
         check: checked,
         run: ran && printed,
     })
@@ -121,8 +122,8 @@ fn run_at(
     at: usize,
     parts: Parts,
     room: &mut [u8; OUTPUT],
-) -> Outcome
-    requires { ⌜ Placed at (length (now pack)) parts ⌝ }
+) -> CaseResult
+    requires { ⌜ CasePlaced at (length (now pack)) parts ⌝ }
 {
     let header = parts.header;
     let start = header + 1;
@@ -159,28 +160,28 @@ fn run_pack(name: &[u8], pack: &[u8], room: &mut [u8; OUTPUT]) {
     let mut scheduled = 0;
     let mut at = 0;
     while at < pack.len() {
-        let Next::Case(parts) = cases::next_case(pack, at) else {
-            agreement::print_malformed(name);
+        let Next::Case(parts) = vectors_cases::next_case(pack, at) else {
+            vectors_agreement::print_malformed(name);
             return;
         };
         match run_at(name, pack, at, parts, room) {
-            Outcome::Ran(agreed) => {
+            CaseResult::Ran(agreed) => {
                 checks = counted(checks, agreed.check);
                 runs = counted(runs, agreed.run);
                 run += 1;
             }
-            Outcome::Scheduled(agrees) => {
+            CaseResult::Scheduled(agrees) => {
                 schedules = counted(schedules, agrees);
                 scheduled += 1;
             }
-            Outcome::Malformed => {
-                agreement::print_malformed(name);
+            CaseResult::Malformed => {
+                vectors_agreement::print_malformed(name);
                 return;
             }
         }
         at = parts.output;
     }
-    agreement::print_total(name, checks, runs, run, schedules, scheduled);
+    vectors_agreement::print_total(name, checks, runs, run, schedules, scheduled);
 }
 
 // Reads a pack into the bytes lent for it, and runs it. One that fills them all may go on past them: it is not run.
@@ -190,14 +191,14 @@ fn run_file(name: &[u8], bytes: &mut [u8], room: &mut [u8; OUTPUT]) {
         os::fail(name);
         return;
     }
-    let read = streams::read_all(descriptor, name, bytes);
+    let read = program_streams::read_all(descriptor, name, bytes);
     libc::close(descriptor);
     if read.failed {
         return;
     }
     let length = read.length;
     if length == bytes.len() {
-        agreement::print_malformed(name);
+        vectors_agreement::print_malformed(name);
         return;
     }
     run_pack(name, &bytes[..length], room);

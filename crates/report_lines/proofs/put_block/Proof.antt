@@ -4,11 +4,11 @@ use mathlib.Core.Path.{ap}
 use native.Mathlib.Omega.{arith}
 use borrow.Author.Needs.{needs}
 use denote.Ref.{now}
-use Rattle.text.specs.Bytes.{bytes}
-use Rattle.runs.specs.Report.{lineOf}
-use Rattle.writes.proofs.Writes.{widen, renamed}
-use Rattle.cells.proofs.Blocks.{block-inside}
-use Rattle.report_lines.proofs.Parts.{block-part}
+use Rattle.spec_text.specs.Bytes.{bytes}
+use Rattle.spec_report.specs.Report.{lineOf}
+use Rattle.report_bytes.proofs.Writes.{widen, renamed}
+use Rattle.step_cells.proofs.StoreRoom.{block-inside}
+use Rattle.report_lines.proofs.BlockWords.{block-part}
 use Rattle.report_lines.proofs.put_block.Statement.{statement}
 use Rattle.report_lines.proofs.put_block.Tie as tie
 

@@ -5,14 +5,14 @@ use mathlib.Core.List.{List}
 use native.Mathlib.Omega.{arith}
 use denote.Ref.{now}
 use lib.ListN.{getD}
-use Rattle.text.specs.Bytes.{bytes}
-use Rattle.format.specs.declared.Sizes.{Sizes}
-use Rattle.model.specs.Machine.{blockIn}
-use Rattle.runs.specs.Report.{joined, lineOf}
-use Rattle.cells.specs.CellTable.{places, bankAt}
-use Rattle.writes.specs.Writes.{Writes}
-use Rattle.report_lines.specs.Lines.{blocksBytes}
-use Rattle.writes.proofs.Writes.{nothing, turn, widen, renamed, keeps}
+use Rattle.spec_text.specs.Bytes.{bytes}
+use Rattle.spec_format.specs.declared.Sizes.{Sizes}
+use Rattle.spec_machine.specs.Machine.{blockIn}
+use Rattle.spec_report.specs.Report.{joined, lineOf}
+use Rattle.step_cells.specs.CellTable.{places, bankAt}
+use Rattle.report_bytes.specs.Writes.{Writes}
+use Rattle.report_lines.specs.ReportLines.{blocksBytes}
+use Rattle.report_bytes.proofs.Writes.{nothing, once-more, widen, renamed, keeps}
 use Rattle.report_lines.proofs.put_blocks.Statement.{statement}
 use Rattle.report_lines.proofs.put_blocks.Tie as tie
 
@@ -79,7 +79,7 @@ loop-again c =
     let sizes = l .before .sizes .result in
     let line = one sizes (places (now (a .cells)) bankAt 16) (now (a .store)) in
     let e = ap (λ k. lineOf (bytes "block") (blockIn (sizes .words) (now (a .store)) k)) (n .bank .ensures 0) in
-    (omega arith, turn (l .loop .b) line (l .loop .inv .1) (renamed _ e (p .put-block .ensures)))
+    (omega arith, once-more (l .loop .b) line (l .loop .inv .1) (renamed _ e (p .put-block .ensures)))
 
 returns : tie.Need-returns Inv-loop μ-loop
 returns c =

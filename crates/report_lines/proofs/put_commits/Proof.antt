@@ -5,12 +5,12 @@ use mathlib.Core.List.{List, [], append-nil}
 use native.Mathlib.Omega.{arith}
 use denote.Ref.{now}
 use lib.ListN.{getD, take}
-use Rattle.text.specs.Bytes.{bytes}
-use Rattle.runs.specs.Report.{joined, lineOf}
-use Rattle.writes.specs.Writes.{Writes}
-use Rattle.report_lines.specs.Lines.{rowLines}
-use Rattle.writes.proofs.Writes.{nothing, turn, renamed, keeps}
-use Rattle.writes.proofs.Parts.{joined-of}
+use Rattle.spec_text.specs.Bytes.{bytes}
+use Rattle.spec_report.specs.Report.{joined, lineOf}
+use Rattle.report_bytes.specs.Writes.{Writes}
+use Rattle.report_lines.specs.ReportLines.{rowLines}
+use Rattle.report_bytes.proofs.Writes.{nothing, once-more, renamed, keeps}
+use Rattle.report_bytes.proofs.LoopParts.{joined-of}
 use Rattle.report_lines.proofs.put_commits.Statement.{statement}
 use Rattle.report_lines.proofs.put_commits.Tie as tie
 
@@ -48,7 +48,7 @@ loop-again c =
     let p = c .before .before in
     let l = p .before .before .before .before in
     let line = one (now (l .before .before .args .commits)) in
-    (omega arith, turn (l .loop .i) line (l .loop .inv .1) (p .put-commit .ensures))
+    (omega arith, once-more (l .loop .i) line (l .loop .inv .1) (p .put-commit .ensures))
 
 returns : tie.Need-returns Inv-loop μ-loop
 returns c =

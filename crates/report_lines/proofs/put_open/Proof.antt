@@ -5,8 +5,8 @@ use borrow.Author.Needs.{needs}
 use borrow.Author.Tests.{not-true, not-false}
 use mir.Syntax.{w32}
 use mir.ValLaws.{toZ-ofZ}
-use Rattle.runs.specs.Report.{statusBytes}
-use Rattle.writes.proofs.Writes.{nothing, then, widen, renamed}
+use Rattle.spec_report.specs.Report.{statusBytes}
+use Rattle.report_bytes.proofs.Writes.{nothing, then, widen, renamed}
 use Rattle.report_lines.proofs.put_open.Statement.{statement}
 use Rattle.report_lines.proofs.put_open.Tie as tie
 
@@ -33,8 +33,8 @@ put-decimal-requires c κs = search needs
 put-byte-requires-2 : tie.Need-put-byte-requires-2
 put-byte-requires-2 c κs = search needs
 
-put-status-requires : tie.Need-put-status-requires
-put-status-requires c κs = search needs
+put-job-status-requires : tie.Need-put-job-status-requires
+put-job-status-requires c κs = search needs
 
 put-byte-requires-3 : tie.Need-put-byte-requires-3
 put-byte-requires-3 c κs = search needs
@@ -62,7 +62,7 @@ returns-2 c =
     (then (tab .put-byte .ensures)
     (then (job .put-decimal .ensures)
     (then (second .put-byte2 .ensures)
-    (then (renamed (statusBytes z) e (status .put-status .ensures)) (end .put-byte3 .ensures)))))))
+    (then (renamed (statusBytes z) e (status .put-job-status .ensures)) (end .put-byte3 .ensures)))))))
 
 pub put-open-spec : {M : Type 1} → statement M
 put-open-spec =
@@ -75,7 +75,7 @@ put-open-spec =
     cast-put-decimal
     put-decimal-requires
     put-byte-requires-2
-    put-status-requires
+    put-job-status-requires
     put-byte-requires-3
     same-length
     returns-2)

@@ -11,12 +11,12 @@ use lib.ListN.{getD}
 use mir.Syntax.{w32}
 use mir.Val.{ofZ, toZ}
 use mir.ValLaws.{toZ-ofZ}
-use Rattle.layout.specs.PlanTable.{sizesIn}
-use Rattle.runs.specs.Report.{joined}
-use Rattle.cells.specs.CellTable.{places, activeAt}
-use Rattle.writes.specs.Writes.{Writes}
-use Rattle.report_lines.specs.Lines.{openBytes}
-use Rattle.writes.proofs.Writes.{nothing, turn, widen, renamed, keeps}
+use Rattle.read_tables.specs.PlanTable.{sizesIn}
+use Rattle.spec_report.specs.Report.{joined}
+use Rattle.step_cells.specs.CellTable.{places, activeAt}
+use Rattle.report_bytes.specs.Writes.{Writes}
+use Rattle.report_lines.specs.ReportLines.{openBytes}
+use Rattle.report_bytes.proofs.Writes.{nothing, once-more, widen, renamed, keeps}
 use Rattle.report_lines.proofs.put_opens.Statement.{statement}
 use Rattle.report_lines.proofs.put_opens.Tie as tie
 
@@ -79,7 +79,7 @@ loop-again c =
     ap (λ z. cond (told .result) (openBytes (l .loop .k) z) []) (kept q)
     ∙ ap (λ b. cond b (openBytes (l .loop .k) (getD (now (a .stat)) (l .loop .k) (pos 0))) []) (told .ensures 0)
     in
-    (omega arith, turn (l .loop .k) line (l .loop .inv .1) (renamed _ e (p .put-open .ensures)))
+    (omega arith, once-more (l .loop .k) line (l .loop .inv .1) (renamed _ e (p .put-open .ensures)))
 
 returns : tie.Need-returns Inv-loop μ-loop
 returns c =

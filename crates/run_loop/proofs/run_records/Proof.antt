@@ -58,48 +58,59 @@ use denote.Triple.Call.{calls-at}
 use denote.Triple.Clauses.{ensured, lasts, Lasts}
 use denote.Triple.Table.{entered, cited}
 use denote.Triple.Walked.{says, needs, Stays, walkOf, Walks, ends-at, walked, walk-meets}
-use Rattle.format.specs.declared.Entry.{Entry}
-use Rattle.cells.specs.declared.Registers.{Registers}
-use Rattle.cells.specs.Tables.{Tables as Lists, idle}
-use Rattle.judge.specs.declared.Ruling.{Ruling}
-use Rattle.judge.specs.Rulings.{changedBy}
-use Rattle.format.proofs.Entry as E
-use Rattle.format.proofs.Entry.Laws as E′
-use Rattle.cells.proofs.Registers as K
-use Rattle.cells.proofs.Registers.Laws as K′
-use Rattle.judge.proofs.Ruling as R
-use Rattle.judge.proofs.Ruling.Laws as R′
-use Rattle.acting.specs.Acting.{Asked, Gives}
-use Rattle.walks.proofs.Told.{all-told, all-fit, all-go}
-use Rattle.walks.proofs.Short.{var, arg, behind, sets, leave}
-use Rattle.walks.proofs.Local.{lies-in, lies-out}
-use Rattle.walks.proofs.Lent.{repeat-is}
-use Rattle.walks.proofs.Spots.{Held, unset, has, spots, locals, sink}
-use Rattle.walks.proofs.Structs as structs
-use Rattle.walks.proofs.Muts as muts
-use Rattle.where_kept.proofs.Handed.{Words, PlanWords, PlanT, Cells, Stat, Rows, Commits, seven, Seven, inTables}
-use Rattle.where_kept.proofs.Handed.{registers-typed, ruling-typed}
-use Rattle.where_kept.proofs.Handed as hand
-use Rattle.run_loop.specs.Reached.{Starts}
-use Rattle.run_loop.proofs.Turns as law
-use Rattle.run_loop.proofs.Turns.{noEntry}
+use Rattle.spec_format.specs.declared.Entry.{Entry}
+use Rattle.step_cells.specs.declared.Registers.{Registers}
+use Rattle.step_cells.specs.Tables.{Tables as Lists, idle}
+use Rattle.run_judge.specs.declared.Ruling.{Ruling}
+use Rattle.run_judge.specs.Rulings.{changedBy}
+use Rattle.spec_format.proofs.Entry as E
+use Rattle.spec_format.proofs.Entry.Laws as E′
+use Rattle.step_cells.proofs.Registers as K
+use Rattle.step_cells.proofs.Registers.Laws as K′
+use Rattle.run_judge.proofs.Ruling as R
+use Rattle.run_judge.proofs.Ruling.Laws as R′
+use Rattle.run_entry.specs.Acting.{Asked, Gives}
+use Rattle.proof_walks.proofs.AtExit.{all-told, all-fit, all-go}
+use Rattle.proof_walks.proofs.JoinedSteps.{var, arg, behind, sets, leave}
+use Rattle.proof_walks.proofs.Local.{lies-in, lies-out}
+use Rattle.proof_walks.proofs.Lent.{repeat-is}
+use Rattle.proof_walks.proofs.Spots.{Held, unset, has, spots, locals, sink}
+use Rattle.proof_walks.proofs.Structs as structs
+use Rattle.proof_walks.proofs.Muts as muts
+use Rattle.run_entry_in_place.proofs.Handed.{
+  Words,
+  PlanWords,
+  PlanT,
+  Cells,
+  Stat,
+  Rows,
+  Commits,
+  seven,
+  Seven,
+  inTables,
+}
+use Rattle.run_entry_in_place.proofs.Handed.{registers-typed, ruling-typed}
+use Rattle.run_entry_in_place.proofs.Handed as hand
+use Rattle.run_loop.specs.RunReached.{Starts}
+use Rattle.run_loop.proofs.OneAfterAnother as law
+use Rattle.run_loop.proofs.OneAfterAnother.{noEntry}
 -- the callees
-use Rattle.registers.proofs.idle as id
-use Rattle.registers.proofs.idle.Symbol as id-def
-use Rattle.registers.proofs.idle.Symbol.{name as #idle}
-use Rattle.registers.proofs.idle.Met as id-thm
-use Rattle.judge.proofs.changed as ch
-use Rattle.judge.proofs.changed.Symbol as ch-def
-use Rattle.judge.proofs.changed.Symbol.{name as #changed}
-use Rattle.judge.proofs.changed.Met as ch-thm
-use Rattle.judge.proofs.judge_record as jr
-use Rattle.judge.proofs.judge_record.Symbol as jr-def
-use Rattle.judge.proofs.judge_record.Symbol.{name as #judge-record}
-use Rattle.judge.proofs.judge_record.Met as jr-thm
-use Rattle.where_kept.proofs.act_where_kept as put
-use Rattle.where_kept.proofs.act_where_kept.Symbol as put-def
-use Rattle.where_kept.proofs.act_where_kept.Symbol.{name as #act-where-kept}
-use Rattle.where_kept.proofs.act_where_kept.Met as put-thm
+use Rattle.step_registers.proofs.idle as id
+use Rattle.step_registers.proofs.idle.Symbol as id-def
+use Rattle.step_registers.proofs.idle.Symbol.{name as #idle}
+use Rattle.step_registers.proofs.idle.Met as id-thm
+use Rattle.run_judge.proofs.changed as ch
+use Rattle.run_judge.proofs.changed.Symbol as ch-def
+use Rattle.run_judge.proofs.changed.Symbol.{name as #changed}
+use Rattle.run_judge.proofs.changed.Met as ch-thm
+use Rattle.run_judge.proofs.judge_record as jr
+use Rattle.run_judge.proofs.judge_record.Symbol as jr-def
+use Rattle.run_judge.proofs.judge_record.Symbol.{name as #judge-record}
+use Rattle.run_judge.proofs.judge_record.Met as jr-thm
+use Rattle.run_entry_in_place.proofs.act_where_kept as put
+use Rattle.run_entry_in_place.proofs.act_where_kept.Symbol as put-def
+use Rattle.run_entry_in_place.proofs.act_where_kept.Symbol.{name as #act-where-kept}
+use Rattle.run_entry_in_place.proofs.act_where_kept.Met as put-thm
 -- the function
 use Rattle.run_loop.proofs.run_records.Key.{name as #run-records}
 use Rattle.run_loop.proofs.run_records as all
@@ -821,10 +832,10 @@ run-records-spec 𝓤 H 𝓜 𝓖 𝓡 =
     (here .C) (here .Λ) #run-records code.function (code.unfolded 𝓤 H 𝓜 𝓡)
     (all-meets 𝓤 H (𝓖 .A) (givenOf 𝓤 H 𝓜 𝓖) (𝓜 .mem) (𝓡 .run) (tablesOf 𝓤 H 𝓜 here)
     (cited 𝓤 H (Idle 𝓤 H (𝓖 .A) (𝓜 .mem) (𝓡 .run)) 𝓜 𝓡 code.env #idle id-def.routine
-    code.calls-registers·idle (id-thm.met 𝓤 H 𝓜 𝓖 𝓡))
+    code.calls-step-registers·idle (id-thm.met 𝓤 H 𝓜 𝓖 𝓡))
     (cited 𝓤 H (Judge 𝓤 H (𝓖 .A) (𝓜 .mem) (𝓡 .run)) 𝓜 𝓡 code.env #judge-record jr-def.routine
-    code.calls-judge·judge-record (jr-thm.met 𝓤 H 𝓜 𝓖 𝓡))
+    code.calls-run-judge·judge-record (jr-thm.met 𝓤 H 𝓜 𝓖 𝓡))
     (cited 𝓤 H (Changed 𝓤 H (𝓖 .A) (𝓜 .mem) (𝓡 .run)) 𝓜 𝓡 code.env #changed ch-def.routine
-    code.calls-judge·changed (ch-thm.met 𝓤 H 𝓜 𝓖 𝓡))
+    code.calls-run-judge·changed (ch-thm.met 𝓤 H 𝓜 𝓖 𝓡))
     (cited 𝓤 H (Put 𝓤 H (𝓖 .A) (𝓜 .mem) (𝓡 .run)) 𝓜 𝓡 code.env #act-where-kept put-def.routine
-    code.calls-where-kept·act-where-kept (put-thm.met 𝓤 H 𝓜 𝓖 𝓡)))
+    code.calls-run-entry-in-place·act-where-kept (put-thm.met 𝓤 H 𝓜 𝓖 𝓡)))

@@ -1,6 +1,6 @@
 -- `item` is the item of a job by its place. Assumes nothing.
 use mathlib.Core.Path.{refl}
-use Rattle.step_list.proofs.Laws.{at-place, ready-at, idle-does}
+use Rattle.step_list.proofs.ItemAtPlace.{at-place, ready-at, idle-does}
 use borrow.Author.Needs.{needs}
 use Rattle.step_list.proofs.item.Statement.{statement}
 use Rattle.step_list.proofs.item.Tie as tie

@@ -5,10 +5,10 @@ use native.Mathlib.Omega.{arith}
 use mathlib.Core.Path.{_≡_, subst}
 use lib.ListN.{length}
 use denote.Ref.{now}
-use Rattle.cases.specs.declared.Next.{Next}
-use Rattle.cases.specs.declared.Next.the-variants.{Case}
-use Rattle.cases.specs.declared.Parts.{Parts}
-use Rattle.cases.specs.Places.{Placed, Within}
+use Rattle.vectors_cases.specs.declared.Next.{Next}
+use Rattle.vectors_cases.specs.declared.Next.the-variants.{Case}
+use Rattle.vectors_cases.specs.declared.Parts.{Parts}
+use Rattle.vectors_cases.specs.CaseParts.{CasePlaced, Within}
 use borrow.Author.Needs.{needs}
 use Rattle.vectors.proofs.run_pack.Statement.{statement}
 use Rattle.vectors.proofs.run_pack.Tie as tie
@@ -23,12 +23,12 @@ abbrev μ-loop : tie.MeasureT-loop
     length pack - at
 
 -- Of a case that was found, what is known of what was found.
-case-placed : (at size : ℕ) (r : Next) (p : Parts) → r ≡ Case p → Within at size r → Placed at size p
+case-placed : (at size : ℕ) (r : Next) (p : Parts) → r ≡ Case p → Within at size r → CasePlaced at size p
 case-placed at size r p e = subst (Within at size) e
 
 -- The parts of the case at hand, by what `next_case` ensures.
 placed : (c : tie.After-parts Inv-loop μ-loop)
-    → Placed
+    → CasePlaced
     (c .before .before .before .before .loop .at)
     (length (now (c .before .before .before .before .before .before .before .args .pack)))
     (c .parts .given .0 .0)

@@ -5,8 +5,8 @@ use mathlib.Core.Path.{_≡_, sym}
 use denote.Ref.{now}
 use lib.ListN.{length, take}
 use lib.Seq.{length-take-le}
-use Rattle.runs.specs.Runs.{runSchedule, handed}
-use Rattle.runs.proofs.Buffers.{handed-fits}
+use Rattle.spec_report.specs.Outcomes.{runSchedule, handed}
+use Rattle.spec_report.proofs.Buffers.{handed-fits}
 use borrow.Author.Needs.{needs}
 use Rattle.vectors.proofs.run_schedule.Statement.{statement}
 use Rattle.vectors.proofs.run_schedule.Tie as tie

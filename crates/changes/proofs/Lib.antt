@@ -1,5 +1,0 @@
--- The laws of the changes: words of the store, the first places of a list, and a job's own places.
-pub mod Words
-pub mod FirstPlaces
-pub mod Clearing
-pub mod Reclaiming

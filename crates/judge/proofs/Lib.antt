@@ -1,3 +1,0 @@
--- Laws of the jobs that run on a card, and of the book as a job becomes active or returns.
-pub mod Runs
-pub mod Turned

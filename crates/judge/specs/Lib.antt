@@ -1,3 +1,0 @@
--- Who is active and who runs on each card, as the book has it, and what a record comes to.
-pub mod Turns
-pub mod Rulings

@@ -1,2 +1,0 @@
--- What the functions that read one line promise.
-pub mod Steps

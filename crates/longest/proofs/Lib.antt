@@ -1,5 +1,0 @@
--- No report is longer than 75,101 bytes, in the order in which it is read; and the bound computed.
-pub mod Committed
-pub mod Lines
-pub mod Short
-mod Examples

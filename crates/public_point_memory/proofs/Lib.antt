@@ -1,0 +1,2 @@
+-- The local arrays of a run of records.
+pub mod LocalArrays

@@ -1,2 +1,0 @@
-// The theorem that every number of the machine stays in its range, which the code's arrays and small integers rest on:
-// stated in the crate model, specs/Ranges.antt, and proved here. No code.

@@ -1,0 +1,2 @@
+-- Lines and fields by their places in a text.
+pub mod FieldPlaces

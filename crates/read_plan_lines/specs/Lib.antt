@@ -1,0 +1,2 @@
+-- What reading the words of a block promises.
+pub mod PartRead

@@ -1,2 +1,0 @@
--- What a schedule of records comes to, case by case.
-pub mod Outcomes

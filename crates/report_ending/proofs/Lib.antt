@@ -1,0 +1,3 @@
+-- The laws of how a run ends.
+pub mod WrittenOut
+pub mod ReportOfTables

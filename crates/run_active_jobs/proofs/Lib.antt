@@ -1,0 +1,2 @@
+-- The search for the job that runs on a card.
+pub mod BestJob

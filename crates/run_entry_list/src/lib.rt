@@ -1,0 +1,67 @@
+// A text's entries, noted while it was read, put into records and run by the one loop.
+ghost use mathlib.Core.Path.{_≡_};
+ghost use Prim.Native.Nat.{_≤_};
+ghost use lib.ListN.{take};
+ghost use Rattle.read_tables.specs.EntryTable.{listedIn};
+ghost use Rattle.step_cells.specs.Tables.{lent};
+ghost use Rattle.run_loop.specs.RunReached.{Starts, Ran};
+ghost use Rattle.run_entry_list.specs.EntriesAlone.{entriesIn};
+use read_tables::ENTRY_PLACES;
+use read_tables::PLAN_PLACES;
+use spec_format::Entry;
+use step_cells::CELL_PLACES;
+
+// The first n entries of their table as records.
+pub fn records_of(entries: &[u32; ENTRY_PLACES], n: usize) -> [Entry; 4000]
+    requires { ⌜ n ≤ 4000 ⌝ }
+    ensures { λ r. ⌜ take n r ≡ entriesIn (listedIn n (now (entries .entry))) ⌝ }
+{
+    let none = Entry {
+        kind: 0,
+        first: 0,
+        second: 0,
+    };
+    let mut records = [none; 4000];
+    let mut i = 0;
+    while i < n {
+        records[i] = read_tables::entry_at(entries, i);
+        i += 1;
+    }
+    records
+}
+
+// The first n records of an array run, one after another.
+pub fn run_list<'a, 'b>(
+    list: [Entry; 4000],
+    n: usize,
+    plan: &'a [u32; PLAN_PLACES],
+    cells: &'b mut [u32; CELL_PLACES],
+    stat: &'b mut [i32; 17],
+    store: &'b mut [u32],
+    addr: &'b mut [[u32; 16]; 16],
+    old: &'b mut [[u32; 16]; 16],
+    new: &'b mut [[u32; 16]; 16],
+    commits: &'b mut [[u32; 3]; 4000],
+)
+    requires { ⌜ (n ≤ 4000) × Starts (now plan) (take n list)
+        (lent (now cells) (now stat) (now store) (now addr) (now old) (now new) (now commits)) ⌝ }
+    ensures { λ _. ⌜ (Starts (now (plan .entry)) (take n list)
+        (lent (now (cells .entry)) (now (stat .entry)) (now (store .entry)) (now (addr .entry)) (now (old .entry))
+        (now (new .entry)) (now (commits .entry)))
+        → Ran (now (plan .entry)) (take n list) (take n list)
+        (lent (now (cells .exit)) (now (stat .exit)) (now (store .exit)) (now (addr .exit)) (now (old .exit))
+        (now (new .exit)) (now (commits .exit)))) ⌝ }
+{
+    run_loop::run_records(
+        &list[..n],
+        n,
+        plan,
+        cells,
+        stat,
+        store,
+        addr,
+        old,
+        new,
+        commits,
+    );
+}

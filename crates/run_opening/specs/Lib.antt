@@ -1,0 +1,3 @@
+-- What the tables hold at the opening.
+pub mod OpenedParts
+pub mod Opened

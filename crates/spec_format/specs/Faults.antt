@@ -1,0 +1,187 @@
+-- The faults of a line, one clause for each row of the table: what the lines before have said is a draft of the plan,
+-- and a line has a fault or not, whatever other faults it has. Fault, its variants and Form are declared in
+-- src/lib.rt. Assumes nothing.
+use Prim.Native.Nat.{ℕ, _*_}
+use mathlib.Core.Bool.{Bool, true, false, not, _&&_, _||_}
+use mathlib.Core.List.{List, [], _∷_, _++_}
+use mathlib.Core.Option.{Option, none, some}
+use lib.Dec.{ltb, leb, eqb}
+use lib.ListN.{length}
+use Rattle.spec_format.specs.declared.Kind.{Kind}
+use Rattle.spec_format.specs.declared.Fault.{Fault}
+use Rattle.spec_format.specs.declared.Form.{Form}
+use Rattle.spec_format.specs.declared.Sizes.{Sizes}
+use Rattle.spec_format.specs.declared.Job.{Job}
+use Rattle.spec_format.specs.declared.Move.{Move}
+use Rattle.spec_format.specs.Plan.{Plan, any, named, blocksWritten}
+use Rattle.spec_format.specs.ParsedLines.{Directive, plan, job, block, update, move, entry, ParsedLine}
+
+-- The number of each fault in the table.
+abbrev pub numberOf : Fault → ℕ
+numberOf Fault.TooLong = 1
+numberOf Fault.Unknown = 2
+numberOf Fault.Misplaced = 3
+numberOf Fault.Malformed = 4
+numberOf Fault.TooMany = 5
+numberOf Fault.BadSize = 6
+numberOf Fault.BadJob = 7
+numberOf Fault.SameJob = 8
+numberOf Fault.BadWord = 9
+numberOf Fault.TooManyBlocks = 10
+
+-- What some lines have said: how many they are, how many of them are blocks and entries, and the plan so far. Before
+-- the plan line all sizes are 0.
+pub record Draft : Type 0 where
+  pub lines : ℕ
+  pub blocks : ℕ
+  pub entries : ℕ
+  pub plan : Plan
+
+-- Whether the plan still lacks jobs.
+abbrev pub lacksJobs : Draft → Bool
+lacksJobs d = ltb (length (d .plan .jobs)) (d .plan .sizes .jobs)
+
+-- Whether the plan still lacks blocks.
+abbrev pub lacksBlocks : Draft → Bool
+lacksBlocks d = ltb (d .blocks) (d .plan .sizes .blocks)
+
+-- The plan line, N jobs and B blocks are there: updates and entries may follow, and the text may end.
+abbrev pub laidOut : Draft → Bool
+laidOut d = ltb 0 (d .lines) && (not (lacksJobs d) && not (lacksBlocks d))
+
+-- Whether entries may stand in a text of this form.
+abbrev pub takesEntries : Form → Bool
+takesEntries Form.Schedule = true
+takesEntries Form.PlanAlone = false
+
+-- "In this order: `plan P N B S C`; N lines `job card priority`; B lines `block` with S opening words; any updates,
+-- each a line `update` followed by moves ..; then any entries": whether a kind can stand here.
+abbrev pub stands : Form → Draft → Kind → Bool
+stands form d Kind.Plan = eqb (d .lines) 0
+stands form d Kind.Job = lacksJobs d
+stands form d Kind.Block = not (lacksJobs d) && lacksBlocks d
+stands form d Kind.Update = laidOut d && eqb (d .entries) 0
+stands form d Kind.Copy = (laidOut d && eqb (d .entries) 0) && ltb 0 (length (d .plan .updates))
+stands form d Kind.Set = (laidOut d && eqb (d .entries) 0) && ltb 0 (length (d .plan .updates))
+stands form d Kind.Add = (laidOut d && eqb (d .entries) 0) && ltb 0 (length (d .plan .updates))
+stands form d Kind.Call = takesEntries form && laidOut d
+stands form d Kind.Step = takesEntries form && laidOut d
+stands form d Kind.Unknown = false
+
+-- The moves of the last update so far.
+abbrev pub lastOf : List (List Move) → List Move
+lastOf [] = []
+lastOf (u ∷ []) = u
+lastOf (u ∷ v ∷ us) = lastOf (v ∷ us)
+
+-- The first field is none of the known ones.
+abbrev pub isUnknown : Kind → Bool
+isUnknown Kind.Plan = false
+isUnknown Kind.Job = false
+isUnknown Kind.Block = false
+isUnknown Kind.Update = false
+isUnknown Kind.Copy = false
+isUnknown Kind.Set = false
+isUnknown Kind.Add = false
+isUnknown Kind.Call = false
+isUnknown Kind.Step = false
+isUnknown Kind.Unknown = true
+
+-- A number is from low to high.
+abbrev pub within : ℕ → ℕ → ℕ → Bool
+within low high n = leb low n && leb n high
+
+-- P, N, B, S and C are each in their range.
+abbrev pub inRange : Sizes → Bool
+inRange s =
+    within 1 8 (s .cards)
+    && (within 1 16 (s .jobs)
+    && (within 1 16 (s .blocks)
+    && (within 1 16 (s .words) && within 1 8 (s .copies))))
+
+-- Some earlier job has this card and priority.
+abbrev pub taken : Job → List Job → Bool
+taken j is = any (λ i. eqb (i .card) (j .card) && eqb (i .priority) (j .priority)) is
+
+-- Some number of the list is not below n.
+abbrev pub someFrom : ℕ → List ℕ → Bool
+someFrom n ws = any (λ w. leb n w) ws
+
+-- A test of the sizes that a line says, where it says any.
+abbrev pub ofPlan : (Sizes → Bool) → Option Directive → Bool
+ofPlan f none = false
+ofPlan f (some (plan s)) = f s
+ofPlan f (some (job j)) = false
+ofPlan f (some (block ws)) = false
+ofPlan f (some update) = false
+ofPlan f (some (move m)) = false
+ofPlan f (some (entry e)) = false
+
+-- The same of the job.
+abbrev pub ofJob : (Job → Bool) → Option Directive → Bool
+ofJob f none = false
+ofJob f (some (plan s)) = false
+ofJob f (some (job j)) = f j
+ofJob f (some (block ws)) = false
+ofJob f (some update) = false
+ofJob f (some (move m)) = false
+ofJob f (some (entry e)) = false
+
+-- The same of the move.
+abbrev pub ofMove : (Move → Bool) → Option Directive → Bool
+ofMove f none = false
+ofMove f (some (plan s)) = false
+ofMove f (some (job j)) = false
+ofMove f (some (block ws)) = false
+ofMove f (some update) = false
+ofMove f (some (move m)) = f m
+ofMove f (some (entry e)) = false
+
+-- The fields cannot be read: a wrong count of them, or a bad number.
+abbrev pub unreadable : Option Directive → Bool
+unreadable none = true
+unreadable (some i) = false
+
+-- The most entries of a schedule.
+abbrev pub mostEntries : ℕ
+mostEntries = 4000
+
+-- The 33rd update, the 17th move, the 4,001st entry.
+abbrev pub oneTooMany : Draft → Option Directive → Bool
+oneTooMany d none = false
+oneTooMany d (some (plan s)) = false
+oneTooMany d (some (job j)) = false
+oneTooMany d (some (block ws)) = false
+oneTooMany d (some update) = leb 32 (length (d .plan .updates))
+oneTooMany d (some (move m)) = leb 16 (length (lastOf (d .plan .updates)))
+oneTooMany d (some (entry e)) = leb mostEntries (d .entries)
+
+-- Whether a line has a fault, after lines that gave the draft d. The rows of the table, in its order.
+abbrev pub hasFault : Form → Draft → ParsedLine → Fault → Bool
+-- 1: text over 65,536 bytes. This is no line's fault but the whole text's.
+hasFault form d r Fault.TooLong = false
+-- 2: a last line without its line feed, or an unknown first field.
+hasFault form d r Fault.Unknown = not (r .ended) || isUnknown (r .kind)
+-- 3: the kind cannot stand here.
+hasFault form d r Fault.Misplaced = not (stands form d (r .kind))
+-- 4: wrong count of fields, or a bad number.
+hasFault form d r Fault.Malformed = unreadable (r .directive)
+-- 5: 33rd update, 17th move, 4,001st entry.
+hasFault form d r Fault.TooMany = oneTooMany d (r .directive)
+-- 6: P, N, B, S or C outside its range.
+hasFault form d r Fault.BadSize = ofPlan (λ s. not (inRange s)) (r .directive)
+-- 7: job's card not below P, or priority over 255.
+hasFault form d r Fault.BadJob =
+    ofJob (λ j. leb (d .plan .sizes .cards) (j .card) || ltb 255 (j .priority)) (r .directive)
+-- 8: same card and priority as an earlier job.
+hasFault form d r Fault.SameJob = ofJob (λ j. taken j (d .plan .jobs)) (r .directive)
+-- 9: d or a not below B times S.
+hasFault form d r Fault.BadWord =
+    ofMove (λ m. someFrom (d .plan .sizes .blocks * d .plan .sizes .words) (named m)) (r .directive)
+-- 10: this move makes the update write more than C blocks.
+hasFault form d r Fault.TooManyBlocks =
+    ofMove
+    (λ m.
+    ltb (d .plan .sizes .copies)
+    (length (blocksWritten (d .plan .sizes .words) (lastOf (d .plan .updates) ++ (m ∷ [])))))
+    (r .directive)

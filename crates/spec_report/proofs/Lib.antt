@@ -1,0 +1,9 @@
+-- The definitions computed on the runs of document 01, the laws of what is left in a lent buffer and of where a run
+-- ends, and the nearest wrong machine held against the right one.
+mod Texts
+pub mod MarkedRuns
+pub mod Buffers
+pub mod WholeAtCommit
+pub mod Backed
+pub mod Ends
+pub mod MarkedSchedules

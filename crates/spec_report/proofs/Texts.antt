@@ -1,0 +1,42 @@
+-- Texts of plans and schedules with their sizes as parameters, for the computed runs. Assumes nothing.
+use Prim.Native.Nat.{ℕ, zero, suc}
+use Prim.Native.String.{String}
+use mathlib.Core.List.{List, [], _++_}
+use Rattle.spec_text.specs.Bytes.{bytes}
+use Rattle.spec_text.specs.Decimal.{decimal}
+
+-- A text n times.
+abbrev pub times : ℕ → List ℕ → List ℕ
+times zero s = []
+times (suc n) s = s ++ times n s
+
+-- n times `step 0`.
+abbrev pub steps : ℕ → List ℕ
+steps n = times n (bytes "step\t0\n")
+
+-- `call 0 0`, then n times `step 0`.
+abbrev pub callAndSteps : ℕ → List ℕ
+callAndSteps n = bytes "call\t0\t0\n" ++ steps n
+
+-- A plan with so many cards, one job, and one block of one word; then more lines.
+abbrev pub oneJob : ℕ → ℕ → List ℕ → List ℕ
+oneJob cards word more =
+    bytes "plan\t"
+    ++ (decimal cards
+    ++ (bytes "\t1\t1\t1\t1\njob\t0\t0\nblock\t" ++ (decimal word ++ (bytes "\n" ++ more))))
+
+-- An update with these moves; then more lines.
+abbrev pub update : String → List ℕ → List ℕ
+update moves more = bytes "update\n" ++ (bytes moves ++ more)
+
+-- T with n steps; T itself has 33.
+abbrev pub T : ℕ → List ℕ
+T n = oneJob 1 5 (update "add\t0\t0\t2\n" (callAndSteps n))
+
+-- Two blocks of one word, one of which an update may write; then more lines.
+abbrev pub twoBlocks : List ℕ → List ℕ
+twoBlocks more = bytes "plan\t1\t1\t2\t1\t1\njob\t0\t0\nblock\t5\nblock\t6\n" ++ more
+
+-- Two jobs of one card, of priority 0 and 1, and one block of one word; then more lines.
+abbrev pub twoJobs : List ℕ → List ℕ
+twoJobs more = bytes "plan\t1\t2\t1\t1\t1\njob\t0\t0\njob\t0\t1\nblock\t5\n" ++ more

@@ -1,0 +1,4 @@
+-- The report, and what a text or a schedule of records comes to.
+pub mod Report
+pub mod Outcomes
+pub mod Backed

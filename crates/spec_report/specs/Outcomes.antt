@@ -1,0 +1,103 @@
+-- What the two ways in give: a text with its schedule, or a plan's text with a schedule of records; and what is left in
+-- the lent buffer and handed back. Assumes nothing.
+use Prim.Native.Nat.{ℕ, _+_}
+use mathlib.Core.Bool.{Bool, cond, not, _||_}
+use mathlib.Core.List.{List, [], _∷_, map}
+use mathlib.Core.Option.{Option, none, some}
+use lib.Dec.{eqb, ltb, leb}
+use lib.ListN.{length, getD}
+use Rattle.spec_text.specs.FirstPlaces.{inFirstPlaces}
+use Rattle.spec_format.specs.declared.Entry.{Entry}
+use Rattle.spec_format.specs.declared.Fault.{Fault}
+use Rattle.spec_format.specs.declared.Form.{Form}
+use Rattle.spec_format.specs.Plan.{Plan, Listed}
+use Rattle.spec_format.specs.Faults.{mostEntries}
+use Rattle.spec_format.specs.Reading.{Reading, refusal, accepted, reading}
+use Rattle.spec_machine.specs.declared.Refusal.{Refusal}
+use Rattle.spec_report.specs.declared.End.{End}
+use Rattle.spec_machine.specs.History.{Run, runOf}
+use Rattle.spec_report.specs.Report.{report, reportEnd}
+
+-- What a run comes to before the buffer is looked at: a refusal by a check, without a report, or an end with a report.
+pub data RunOutcome : Type 0 where
+  refused : Fault → ℕ → RunOutcome
+  reported : End → List ℕ → RunOutcome
+
+-- How a run ends: by the refusal that stopped it, with the entry's number and line, or accepted with a count.
+abbrev pub endOf : Option Refusal → ℕ → ℕ → ℕ → End
+endOf none entry line count = End.Accepted count
+endOf (some r) entry line count = End.Refused r entry line
+
+-- How a run of entries ends. Entry i, from 0, stands in line `line i`; acceptance gives `count`.
+abbrev pub endOfRun : Run → (ℕ → ℕ) → ℕ → End
+endOfRun r line count = endOf (r .refusal) (length (r .history) + 1) (line (length (r .history))) count
+
+-- What entries come to for a plan.
+abbrev pub runOutcome : Plan → List Entry → (ℕ → ℕ) → ℕ → RunOutcome
+runOutcome plan es line count =
+    let r : Run = runOf plan es in
+    let e : End = endOfRun r line count in
+    reported e (report plan es r e)
+
+-- The line of entry i of a text.
+abbrev pub lineIn : List Listed → ℕ → ℕ
+lineIn ls i = getD (map (λ (l : Listed). l .line) ls) i 0
+
+-- "The whole text is checked for 1 to 10 before any entry runs; the first of 11 to 14 stops the run."
+abbrev pub ofReading : Reading → RunOutcome
+ofReading (refusal f n) = refused f n
+ofReading (accepted plan ls n) = runOutcome plan (map (λ (l : Listed). l .entry) ls) (lineIn ls) n
+
+-- What a text comes to.
+unfoldable pub runText : List ℕ → RunOutcome
+runText text = ofReading (reading Form.Schedule text)
+
+-- "A record has a kind (0 call, 1 step) and two numbers": the record is of another kind.
+abbrev pub isOther : Entry → Bool
+isOther e = not (eqb (e .kind) 0 || eqb (e .kind) 1)
+
+-- The place, from n on, of the first record of another kind, where there is one.
+abbrev pub otherFrom : ℕ → List Entry → Option ℕ
+otherFrom n [] = none
+otherFrom n (e ∷ es) = cond (isOther e) (some n) (otherFrom (n + 1) es)
+
+-- The records run, unless one is of another kind.
+abbrev pub unlessOther : Option ℕ → RunOutcome → RunOutcome
+unlessOther none o = o
+unlessOther (some place) o = refused Fault.Misplaced place
+
+-- "After the text's check and before any runs, over 4,000 records give 5 at place 4,001, else the first record of
+-- another kind gives 3 ..; these and 11 to 14 give the record's place from 1 as their line, and acceptance gives their
+-- count."
+abbrev pub ofRecords : Reading → List Entry → RunOutcome
+ofRecords (refusal f n) es = refused f n
+ofRecords (accepted plan ls n) es =
+    cond (ltb mostEntries (length es)) (refused Fault.TooMany (mostEntries + 1))
+    (unlessOther (otherFrom 1 es) (runOutcome plan es (λ i. i + 1) (length es)))
+
+-- What a plan's text, "in which an entry line is 3", comes to with a schedule of records.
+unfoldable pub runSchedule : List ℕ → List Entry → RunOutcome
+runSchedule text es = ofRecords (reading Form.PlanAlone text) es
+
+-- A report is written where it is not longer than the lent buffer.
+abbrev pub fits : List ℕ → List ℕ → Bool
+fits bytes buffer = leb (length bytes) (length buffer)
+
+-- How the call ends, with a buffer lent: "15 is decided last."
+abbrev pub ended : RunOutcome → List ℕ → End
+ended (refused f n) buffer = End.Faulty f n
+ended (reported e bytes) buffer = cond (fits bytes buffer) e End.NoRoom
+
+-- "The caller gets back the written part of the buffer it lent, empty where no report is written".
+abbrev pub handed : RunOutcome → List ℕ → List ℕ
+handed (refused f n) buffer = []
+handed (reported e bytes) buffer = cond (fits bytes buffer) bytes []
+
+-- What the buffer then holds: "bytes past the report keep what they held".
+unfoldable pub left : RunOutcome → List ℕ → List ℕ
+left o buffer = inFirstPlaces (handed o buffer) buffer
+
+-- "A program .. prints the report, or `end number line` alone for 1 to 10."
+unfoldable pub printed : RunOutcome → List ℕ
+printed (refused f n) = reportEnd (End.Faulty f n)
+printed (reported e bytes) = bytes

@@ -1,0 +1,4 @@
+-- Laws on the definitions of specs/. Assumes nothing.
+pub mod Cases
+pub mod Decimal
+pub mod Digits

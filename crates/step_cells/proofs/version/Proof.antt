@@ -1,0 +1,16 @@
+-- `version` reads V. Assumes nothing.
+use borrow.Author.Needs.{needs}
+use Rattle.step_cells.proofs.version.Statement.{statement}
+use Rattle.step_cells.proofs.version.Tie as tie
+
+get-requires : tie.Need-get-requires
+get-requires c κs = search needs
+
+get-requires-2 : tie.Need-get-requires-2
+get-requires-2 c κs = search needs
+
+returns : tie.Need-returns
+returns c = rw (c .get2 .ensures, c .before .get .ensures)
+
+pub version-spec : {M : Type 1} → statement M
+version-spec = tie.close (tie.spec get-requires get-requires-2 returns)

@@ -1,2 +1,0 @@
--- The laws of running a text.
-pub mod Laws

@@ -1,0 +1,2 @@
+-- What a schedule of records comes to, case by case.
+pub mod ScheduleOutcomes

@@ -1,0 +1,2 @@
+-- The laws of a plan's text with a schedule of records.
+pub mod BeforeAndAfter

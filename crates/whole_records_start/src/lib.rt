@@ -1,0 +1,77 @@
+// A plan's text with a schedule of records: what comes before the records run.
+ghost use mathlib.Core.Path.{_≡_};
+ghost use lib.ListN.{length};
+ghost use Rattle.read_tables.specs.PlanTable.{emptyPlan};
+ghost use Rattle.read_tables.specs.EntryTable.{entryPlaces};
+ghost use Rattle.run_opening.specs.Opened.{emptyCells, emptyStore};
+ghost use Rattle.whole_records_start.specs.BeforeAndAfter.{toRun, BegunIs};
+use read_tables::ENTRY_PLACES;
+use read_tables::PLAN_PLACES;
+use spec_format::Form;
+use spec_format::Verdict;
+use step_cells::CELL_PLACES;
+
+// The most records that a schedule has.
+pub const MOST: usize = 4000;
+
+// What a plan's text and the count of the records come to before any record runs: the verdict on the text, and how many
+// records run.
+pub struct Begun {
+    pub verdict: Verdict,
+    pub n: usize,
+}
+
+// How many records run: none, where there are too many.
+fn to_run(count: usize) -> usize
+    ensures { λ r. ⌜ r ≡ toRun count ⌝ }
+{
+    if count > MOST {
+        return 0;
+    }
+    count
+}
+
+// The plan's text is read into the tables, and where it is accepted the machine's are opened.
+fn begin_lent(
+    text: &[u8],
+    count: usize,
+    plan: &mut [u32; PLAN_PLACES],
+    entries: &mut [u32; ENTRY_PLACES],
+    cells: &mut [u32; CELL_PLACES],
+    stat: &mut [i32; 17],
+    store: &mut [u32],
+) -> Begun
+    requires { ⌜ (now plan ≡ emptyPlan) × ((length (now entries) ≡ entryPlaces) × ((now cells ≡ emptyCells)
+        × ((length (now stat) ≡ 17) × (now store ≡ emptyStore)))) ⌝ }
+    ensures { λ r. ⌜ BegunIs (now (text .entry)) count r (now (plan .exit)) (now (cells .exit)) (now (stat .exit))
+        (now (store .exit)) ⌝ }
+{
+    let parsed = read_text::read(text, Form::PlanAlone, plan, entries);
+    let verdict = parsed.verdict;
+    match verdict {
+        Verdict::Refused(_, _) => Begun { verdict, n: 0 },
+        Verdict::Accepted(_) => {
+            run_opening::open(plan, cells, stat, store);
+            let n = to_run(count);
+            Begun { verdict, n }
+        }
+    }
+}
+
+// What comes before the records run. The table of entries, of which a plan's text has none, is made here.
+pub fn begin(
+    text: &[u8],
+    count: usize,
+    plan: &mut [u32; PLAN_PLACES],
+    cells: &mut [u32; CELL_PLACES],
+    stat: &mut [i32; 17],
+    store: &mut [u32],
+) -> Begun
+    requires { ⌜ (now plan ≡ emptyPlan) × ((now cells ≡ emptyCells) × ((length (now stat) ≡ 17)
+        × (now store ≡ emptyStore))) ⌝ }
+    ensures { λ r. ⌜ BegunIs (now (text .entry)) count r (now (plan .exit)) (now (cells .exit)) (now (stat .exit))
+        (now (store .exit)) ⌝ }
+{
+    let mut entries = [0u32; ENTRY_PLACES];
+    begin_lent(text, count, plan, &mut entries, cells, stat, store)
+}

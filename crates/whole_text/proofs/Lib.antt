@@ -1,0 +1,2 @@
+-- The laws of running a text.
+pub mod AcceptedText

@@ -1,0 +1,99 @@
+// A whole text, run: it is read, its entries run one after another, and the report is written into the lent buffer.
+ghost use mathlib.Core.Path.{_≡_};
+ghost use mathlib.Core.List.{List};
+ghost use Prim.Native.Nat.{ℕ, _≤_};
+ghost use lib.ListN.{length};
+ghost use Rattle.read_tables.specs.PlanTable.{emptyPlan};
+ghost use Rattle.read_tables.specs.EntryTable.{listedIn, entryPlaces};
+ghost use Rattle.spec_report.specs.Outcomes.{runText, lineIn};
+ghost use Rattle.report_ending.specs.Finishing.{WrittenOut};
+ghost use Rattle.whole_text.specs.Reads.{Reads};
+use read_tables::ENTRY_PLACES;
+use read_tables::PLAN_PLACES;
+use report_ending::Finished;
+use spec_format::Form;
+use spec_format::Verdict;
+use spec_report::End;
+use step_cells::CELL_PLACES;
+
+// The line of entry i, from 0, of the first n, 0 where there is none.
+fn line_of(entries: &[u32; ENTRY_PLACES], n: usize, i: usize) -> usize
+    requires { ⌜ n ≤ 4000 ⌝ }
+    ensures { λ r. ⌜ r ≡ lineIn (listedIn n (now (entries .entry))) i ⌝ }
+{
+    if i < n {
+        return read_tables::line_at(entries, i);
+    }
+    0
+}
+
+// An accepted text is run. The machine's tables are made here, and lent: the store is zero until the opening memory is
+// put in, and the rows are empty.
+fn run_plan(
+    plan: &[u32; PLAN_PLACES],
+    entries: &[u32; ENTRY_PLACES],
+    count: usize,
+    lines: usize,
+    buffer: &mut [u8],
+) -> Finished
+    requires { ⌜ ((text : List ℕ) × Reads text (now plan) (now entries) count lines) ⌝ }
+    ensures { λ r. ⌜ ((text : List ℕ) → Reads text (now (plan .entry)) (now (entries .entry)) count lines
+        → WrittenOut (runText text) (now (buffer .entry)) r (now (buffer .exit))) ⌝ }
+{
+    let mut cells = [0u32; CELL_PLACES];
+    let mut stat = [0i32; 17];
+    let mut store = [0u32; 2304];
+    let empty = [0u32; 16];
+    let mut addr = [empty; 16];
+    let mut old = [empty; 16];
+    let mut new = [empty; 16];
+    let none = [0u32; 3];
+    let mut commits = [none; 4000];
+    run_opening::open(plan, &mut cells, &mut stat, &mut store);
+    run_entry_list::run_list(
+        run_entry_list::records_of(entries, count),
+        count,
+        plan,
+        &mut cells,
+        &mut stat,
+        &mut store,
+        &mut addr,
+        &mut old,
+        &mut new,
+        &mut commits,
+    );
+    let accepted = step_cells::entries(&cells) as usize;
+    let line = line_of(entries, count, accepted);
+    let end = report_ending::end_of(step_cells::halt(&cells), accepted + 1, line, lines);
+    report_ending::finish(buffer, plan, &cells, &stat, &store, &commits, end)
+}
+
+// A text is read into the tables, and run. The whole text is checked for 1 to 10 before any entry runs.
+fn run_read(
+    text: &[u8],
+    plan: &mut [u32; PLAN_PLACES],
+    entries: &mut [u32; ENTRY_PLACES],
+    buffer: &mut [u8],
+) -> Finished
+    requires { ⌜ (now plan ≡ emptyPlan) × (length (now entries) ≡ entryPlaces) ⌝ }
+    ensures { λ r. ⌜ WrittenOut (runText (now (text .entry))) (now (buffer .entry)) r (now (buffer .exit)) ⌝ }
+{
+    let parsed = read_text::read(text, Form::Schedule, plan, entries);
+    let verdict = parsed.verdict;
+    match verdict {
+        Verdict::Refused(fault, line) => Finished {
+            end: End::Faulty(fault, line),
+            length: 0,
+        },
+        Verdict::Accepted(lines) => run_plan(plan, entries, parsed.entries, lines, buffer),
+    }
+}
+
+// Runs a text. The tables are made here, and lent.
+pub fn run_text(text: &[u8], buffer: &mut [u8]) -> Finished
+    ensures { λ r. ⌜ WrittenOut (runText (now (text .entry))) (now (buffer .entry)) r (now (buffer .exit)) ⌝ }
+{
+    let mut plan = [0u32; PLAN_PLACES];
+    let mut entries = [0u32; ENTRY_PLACES];
+    run_read(text, &mut plan, &mut entries, buffer)
+}

@@ -1,3 +1,0 @@
--- Laws of writing into a lent buffer.
-pub mod Writes
-pub mod Parts
