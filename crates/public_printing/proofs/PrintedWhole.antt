@@ -28,7 +28,7 @@ use Rattle.spec_report_length.proofs.Short.{printed-short, printed-some}
 use Rattle.report_bytes.specs.Writes.{Writes}
 use Rattle.report_bytes.proofs.Writes.{put-whole, counts, renamed}
 use Rattle.report_lines.specs.ReportLines.{endBytes}
-use Rattle.report_ending.specs.declared.Finished.{Finished}
+use Rattle.report_ending.specs.declared.WrittenEnd.{WrittenEnd}
 use Rattle.report_ending.specs.Finishing.{WrittenOut}
 use Rattle.public_reference.specs.declared.Answer.{Answer}
 use Rattle.public_reference.specs.Answers.{answerOf}
@@ -79,7 +79,7 @@ end-small text = go (reading Form.Schedule text) refl
         )
 
 -- A run of a text that was written out into a buffer with room for every report.
-module _ (text : List ℕ) {before after : List ℕ} {r : Finished} (long : longestReport ≤ length before)
+module _ (text : List ℕ) {before after : List ℕ} {r : WrittenEnd} (long : longestReport ≤ length before)
     (w : WrittenOut (runText text) before r after) where
   -- There is room for what is printed.
   short : length (printed (runText text)) ≤ length before

@@ -2,8 +2,8 @@
 ghost use mathlib.Core.Path.{_≡_};
 ghost use Rattle.spec_format.specs.Kinds.{sameBytes, kindOf};
 ghost use Rattle.spec_format.specs.Faults.{stands, isUnknown, laidOut};
-ghost use Rattle.read_promises.specs.Promises.{draftOf};
-use read_promises::Progress;
+ghost use Rattle.read_line_promises.specs.Promises.{draftOf};
+use read_line_promises::Progress;
 use read_tables::PLAN_PLACES;
 use spec_format::Form;
 use spec_format::Kind;

@@ -22,11 +22,11 @@ use Rattle.spec_format.specs.ParsedLines.{Directive, directiveOf, numberCount, 
 use Rattle.spec_format.specs.Faults.{isUnknown, stands, laidOut, lacksJobs, lacksBlocks}
 use Rattle.spec_format.specs.Plan.{tabulate}
 use Rattle.read_tables.specs.PlanTable.{sizesIn, updatesIn, updateAt}
-use Rattle.read_promises.specs.declared.Progress.{Progress}
-use Rattle.read_promises.specs.declared.LineRead.{LineRead}
-use Rattle.read_promises.specs.declared.MoveKind.{MoveKind}
-use Rattle.read_promises.specs.declared.EntryKind.{EntryKind}
-use Rattle.read_promises.specs.Promises.{
+use Rattle.read_line_promises.specs.declared.Progress.{Progress}
+use Rattle.read_line_promises.specs.declared.LineRead.{LineRead}
+use Rattle.read_line_promises.specs.declared.MoveKind.{MoveKind}
+use Rattle.read_line_promises.specs.declared.EntryKind.{EntryKind}
+use Rattle.read_line_promises.specs.Promises.{
   ReadTables,
   draftOf,
   NotedAfter,
@@ -36,8 +36,8 @@ use Rattle.read_promises.specs.Promises.{
   moveDirective,
   entryDirective,
 }
-use Rattle.spec_format.proofs.Tabulated.{length-table}
-use Rattle.read_promises.proofs.Lacking.{lacks-jobs}
+use Rattle.spec_format.proofs.Tabulated.{length-tabulate}
+use Rattle.read_line_promises.proofs.Lacking.{lacks-jobs}
 
 -- The kind is the one that was met.
 module _ (k met : Kind) (s : ℕ) (fs : List (List ℕ)) (p : Progress) (x x′ : ReadTables) (r : LineRead)
@@ -138,7 +138,7 @@ module _ (form : Form) (p : Progress) (x x′ : ReadTables) (line : List ℕ) (k
 some-update : (t : List ℕ) (b : Bool) → (b && ltb 0 (length (tabulate (updatesIn t) (updateAt t)))) ≡ true
     → 0 < updatesIn t
 some-update t b e =
-    rw (length-table (updatesIn t) (updateAt t)) at
+    rw (length-tabulate (updatesIn t) (updateAt t)) at
     (ltb-true 0 (length (tabulate (updatesIn t) (updateAt t))) (both b _ e .1))
 
 -- What a kind that can stand here says of the numbers.

@@ -7,7 +7,7 @@ use native.Mathlib.Nat.{add-zero}
 use native.Mathlib.Omega.{arith}
 use lib.ListN.{length, getD}
 use Rattle.spec_format.specs.Plan.{Listed}
-use Rattle.spec_format.proofs.Tabulated.{table-more}
+use Rattle.spec_format.proofs.Tabulated.{tabulate-more}
 use Rattle.read_tables.specs.Puts.{Put}
 use Rattle.read_tables.specs.EntryTable.{entryPlaces, entryStart, notesOf, listedAt, listedIn}
 use Rattle.read_tables.proofs.Puts.{Same, outside}
@@ -30,7 +30,7 @@ entry-same i s =
 pub entries-more : {e e′ : List ℕ} (i : ℕ) (l : Listed) → i < 4000 → length e ≡ entryPlaces
     → Put (entryStart i) (notesOf l) e e′ → listedIn (i + 1) e′ ≡ listedIn i e ++ (l ∷ [])
 entries-more {e} {e′} i l few room p =
-    table-more i (listedAt e) (listedAt e′) l
+    tabulate-more i (listedAt e) (listedAt e′) l
     (λ k less. sym (entry-same k (outside p (entryStart k) (entryStart k + 4) (inl (omega arith)))))
     (λ k. record { entry = record { kind = kind k; first = first k; second = second k }; line = line k })
   where

@@ -11,13 +11,13 @@ use lib.ListN.{length, getD}
 use Rattle.spec_format.specs.declared.Job.{Job}
 use Rattle.spec_format.specs.declared.Move.{Move}
 use Rattle.spec_format.specs.Plan.{tabulate, target}
-use Rattle.spec_format.proofs.Tabulated.{table-same, table-more}
+use Rattle.spec_format.proofs.Tabulated.{tabulate-same, tabulate-more}
 use Rattle.read_tables.specs.Puts.{part, Put}
 use Rattle.read_tables.specs.PlanTable.{planPlaces, updatesAt, cardsAt, prioritiesAt, countsAt, wordsAt, movesAt}
 use Rattle.read_tables.specs.PlanTable.{sizesIn, jobAt, countAt, moveStart, moveAt, updateAt}
 use Rattle.read_tables.specs.PlanTable.{moveOf, codeOf, sourceOf, amountOf, numbersOf}
 use Rattle.read_tables.proofs.Puts.{Same, outside, same-then, same-within, put-there}
-use Rattle.read_tables.proofs.TabulatedParts.{table-add, table-of}
+use Rattle.read_tables.proofs.TabulatedParts.{tabulate-add, tabulate-of}
 
 module _ {t u : List ℕ} where
   -- The sizes are the same.
@@ -35,7 +35,7 @@ module _ {t u : List ℕ} where
   -- The jobs are.
   pub jobs-same : (n : ℕ) → n ≤ 16 → Same cardsAt countsAt t u → tabulate n (jobAt u) ≡ tabulate n (jobAt t)
   jobs-same n few s =
-      table-same n (jobAt u) (jobAt t)
+      tabulate-same n (jobAt u) (jobAt t)
       (λ k l i.
       record {
         card = s .at (cardsAt + k) (omega arith) (omega arith) i;
@@ -45,7 +45,7 @@ module _ {t u : List ℕ} where
   -- The opening words are.
   pub words-same : (n : ℕ) → n ≤ 256 → Same wordsAt movesAt t u → part u wordsAt n ≡ part t wordsAt n
   words-same n few s =
-      table-same n (λ w. getD u (wordsAt + w) 0) (λ w. getD t (wordsAt + w) 0)
+      tabulate-same n (λ w. getD u (wordsAt + w) 0) (λ w. getD t (wordsAt + w) 0)
       (λ w l. s .at (wordsAt + w) (omega arith) (omega arith))
 
   -- A move is, whose four places hold the same.
@@ -61,11 +61,11 @@ module _ {t u : List ℕ} where
       → Same countsAt (countsAt + n) t u → Same movesAt (moveStart (16 * n)) t u
       → tabulate n (updateAt u) ≡ tabulate n (updateAt t)
   updates-same n few filled counts moves =
-      table-same n (updateAt u) (updateAt t)
+      tabulate-same n (updateAt u) (updateAt t)
       (λ v l.
       let most = filled v l in
       ap (λ c. tabulate c (λ i. moveAt u (16 * v + i))) (counts .at (countsAt + v) (omega arith) (omega arith))
-      ∙ table-same (countAt t v) (λ i. moveAt u (16 * v + i)) (λ i. moveAt t (16 * v + i))
+      ∙ tabulate-same (countAt t v) (λ i. moveAt u (16 * v + i)) (λ i. moveAt t (16 * v + i))
       (λ i k.
       move-same (16 * v + i) (same-within moves (moveStart (16 * v + i)) (moveStart (16 * v + i) + 4) (omega arith)
       (omega arith))))
@@ -75,7 +75,7 @@ pub jobs-more : {t s u : List ℕ} (n : ℕ) (j : Job) → n < 16 → length t �
     → Put (cardsAt + n) (j .card ∷ []) t s → Put (prioritiesAt + n) (j .priority ∷ []) s u
     → tabulate (n + 1) (jobAt u) ≡ tabulate n (jobAt t) ++ (j ∷ [])
 jobs-more {t} {s} {u} n j few room p q =
-    table-more n (jobAt t) (jobAt u) j (λ k l. sym (λ i. record { card = card k l i; priority = priority k l i }))
+    tabulate-more n (jobAt t) (jobAt u) j (λ k l. sym (λ i. record { card = card k l i; priority = priority k l i }))
     (λ i. record {
       card = (sames .at (cardsAt + n) (omega arith) (omega arith) ∙ put-there p (omega arith)) i;
       priority = put-there q (omega (arith, p .long)) i;
@@ -102,21 +102,21 @@ pub words-more : {t u : List ℕ} (b s : ℕ) (ws : List ℕ) → wordsAt + b * 
     → Put (wordsAt + b * s) ws t u → part u wordsAt ((b + 1) * s) ≡ part t wordsAt (b * s) ++ ws
 words-more {t} {u} b s ws room many p =
     ap (λ n. part u wordsAt n) (add-mul b 1 s ∙ ap (λ n. b * s + n) (one-mul s))
-    ∙ table-add (b * s) s (λ w. getD u (wordsAt + w) 0)
+    ∙ tabulate-add (b * s) s (λ w. getD u (wordsAt + w) 0)
     ∙ (λ i. before i ++ behind i)
   where
     before : part u wordsAt (b * s) ≡ part t wordsAt (b * s)
     before =
-        table-same (b * s) (λ w. getD u (wordsAt + w) 0) (λ w. getD t (wordsAt + w) 0)
+        tabulate-same (b * s) (λ w. getD u (wordsAt + w) 0) (λ w. getD t (wordsAt + w) 0)
         (λ w l. outside p wordsAt (wordsAt + b * s) (inl (omega arith)) .at (wordsAt + w) (omega arith) (omega arith))
 
     behind : tabulate s (λ w. getD u (wordsAt + (b * s + w)) 0) ≡ ws
     behind =
-        table-same s (λ w. getD u (wordsAt + (b * s + w)) 0) (λ w. getD ws w 0)
+        tabulate-same s (λ w. getD u (wordsAt + (b * s + w)) 0) (λ w. getD ws w 0)
         (λ w l.
         let here : wordsAt + (b * s + w) ≡ wordsAt + b * s + w = omega arith in
         rw here (p .there (omega (arith, many)) w (omega (arith, many))))
-        ∙ table-of s ws many
+        ∙ tabulate-of s ws many
 
 -- The updates with another last one, where those before it have at most 16 moves each and stay.
 last-more : {t u : List ℕ} (n : ℕ) (ms : List Move) → n < 32 → ((v : ℕ) → v < n → countAt t v ≤ 16)
@@ -188,5 +188,5 @@ moves-more {t} {s} {u} n c m few short room filled count p q =
     last : updateAt u n ≡ updateAt t n ++ (m ∷ [])
     last =
         ap (λ k. tabulate k (λ i. moveAt u (16 * n + i))) (put-there q (omega (arith, p .long)))
-        ∙ table-more c (λ i. moveAt t (16 * n + i)) (λ i. moveAt u (16 * n + i)) m earlier there
+        ∙ tabulate-more c (λ i. moveAt t (16 * n + i)) (λ i. moveAt u (16 * n + i)) m earlier there
         ∙ ap (λ k. tabulate k (λ i. moveAt t (16 * n + i)) ++ (m ∷ [])) (sym count)

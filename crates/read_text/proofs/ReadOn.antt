@@ -35,10 +35,10 @@ use Rattle.spec_format.proofs.FirstFault.{one-more}
 use Rattle.spec_format.proofs.Sound.{line-listed}
 use Rattle.read_tables.specs.PlanTable.{planPlaces, emptyPlan, sizesIn, planUpTo}
 use Rattle.read_tables.specs.EntryTable.{entryPlaces, listedIn}
-use Rattle.read_promises.specs.declared.Progress.{Progress}
-use Rattle.read_promises.specs.declared.LineRead.{LineRead}
-use Rattle.read_promises.specs.Promises.{ReadTables, draftOf, lineOutcome, parsedAt, Consistent, LineDone}
-use Rattle.read_promises.proofs.Lacking.{lacks-jobs}
+use Rattle.read_line_promises.specs.declared.Progress.{Progress}
+use Rattle.read_line_promises.specs.declared.LineRead.{LineRead}
+use Rattle.read_line_promises.specs.Promises.{ReadTables, draftOf, lineOutcome, parsedAt, Consistent, LineDone}
+use Rattle.read_line_promises.proofs.Lacking.{lacks-jobs}
 use Rattle.read_text.specs.declared.Cursor.{Cursor}
 use Rattle.read_text.specs.declared.Advance.{Advance}
 use Rattle.read_text.specs.Readings.{readingFrom}

@@ -8,7 +8,7 @@ use Rattle.spec_text.specs.Lines.{Line, lines}
 use Rattle.spec_format.specs.declared.Form.{Form}
 use Rattle.spec_format.specs.Reading.{ReadOutcome, refused, readLines, entriesOf}
 use Rattle.read_tables.specs.EntryTable.{entryPlaces, listedIn}
-use Rattle.read_promises.specs.Promises.{ReadTables, draftOf, Consistent}
+use Rattle.read_line_promises.specs.Promises.{ReadTables, draftOf, Consistent}
 use Rattle.read_text.specs.declared.Cursor.{Cursor}
 use Rattle.read_text.specs.declared.Advance.{Advance}
 

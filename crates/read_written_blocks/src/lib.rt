@@ -4,7 +4,7 @@ ghost use mathlib.Core.Bool.{cond};
 ghost use Prim.Native.Nat.{_≤_, _<_, _+_, _*_};
 ghost use Rattle.spec_format.specs.Plan.{blockOf, tabulate};
 ghost use Rattle.read_tables.specs.PlanTable.{targetAt};
-ghost use Rattle.read_promises.specs.Promises.{writesTo};
+ghost use Rattle.read_line_promises.specs.Promises.{writesTo};
 use read_tables::PLAN_PLACES;
 use spec_format::Sizes;
 

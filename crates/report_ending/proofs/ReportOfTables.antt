@@ -29,7 +29,7 @@ use Rattle.run_judge.specs.Rulings.{haltOf}
 use Rattle.run_loop.specs.CommitRows.{rowIn, rowsIn}
 use Rattle.run_loop.specs.RunReached.{Reached}
 use Rattle.report_lines.specs.ReportLines.{rowLines, openBytes, opensBytes}
-use Rattle.report_whole.specs.Writing.{Reportable, reportBytes}
+use Rattle.report_writer.specs.Writing.{Reportable, reportBytes}
 
 -- A report can be written from tables without their rows where it can from the whole tables.
 pub reportable-rowless : {t : List ℕ} {x : Tables} → Reportable t x

@@ -10,13 +10,13 @@ use Rattle.spec_format.specs.declared.Fault.{Fault}
 use Rattle.spec_report.specs.declared.End.{End}
 use Rattle.spec_report.specs.Report.{endNumber, endLine}
 use Rattle.spec_report.specs.Outcomes.{RunOutcome, refused, reported, left}
-use Rattle.report_whole.specs.declared.WrittenLength.{WrittenLength}
-use Rattle.report_whole.specs.Writing.{IsWritten}
-use Rattle.report_ending.specs.declared.Finished.{Finished}
+use Rattle.report_writer.specs.declared.WrittenLength.{WrittenLength}
+use Rattle.report_writer.specs.Writing.{IsWritten}
+use Rattle.report_ending.specs.declared.WrittenEnd.{WrittenEnd}
 use Rattle.report_ending.specs.Finishing.{WrittenOut, endedBy, endedOf}
 
 -- The same outcome is written out alike.
-pub same-outcome : {o o′ : RunOutcome} {before after : List ℕ} {r : Finished} → o ≡ o′ → WrittenOut o before r after
+pub same-outcome : {o o′ : RunOutcome} {before after : List ℕ} {r : WrittenEnd} → o ≡ o′ → WrittenOut o before r after
     → WrittenOut o′ before r after
 same-outcome {before = before} {after = after} {r = r} e w = subst (λ x. WrittenOut x before r after) e w
 
@@ -32,7 +32,7 @@ module _ (e : End) (whole before after : List ℕ) where
   written-by : (b : Bool) → leb (length whole) (length before) ≡ b → (w : WrittenLength)
       → IsWritten whole before w after
       → w ≡ cond b (WrittenLength.Whole (length whole)) WrittenLength.NoRoom
-      → (r : Finished) → r ≡ cond b (record { end = e; length = length whole }) (record {
+      → (r : WrittenEnd) → r ≡ cond b (record { end = e; length = length whole }) (record {
         end = End.NoRoom;
         length = 0;
       })
@@ -40,14 +40,14 @@ module _ (e : End) (whole before after : List ℕ) where
   unfolding left
   written-by true t w is a r re =
       record {
-        end-is = ap (λ (x : Finished). x .end) re ∙ rw t;
-        length-is = ap (λ (x : Finished). x .length) re ∙ rw t;
+        end-is = ap (λ (x : WrittenEnd). x .end) re ∙ rw t;
+        length-is = ap (λ (x : WrittenEnd). x .length) re ∙ rw t;
         left-is = is .after-is ∙ rw t;
       }
   written-by false t w is a r re =
       record {
-        end-is = ap (λ (x : Finished). x .end) re ∙ rw t;
-        length-is = ap (λ (x : Finished). x .length) re ∙ rw t;
+        end-is = ap (λ (x : WrittenEnd). x .end) re ∙ rw t;
+        length-is = ap (λ (x : WrittenEnd). x .length) re ∙ rw t;
         left-is = is .after-is ∙ rw t;
       }
 
@@ -81,7 +81,7 @@ module _ (e : End) (whole before after : List ℕ) where
       go false t = written-by false t _ is (is .answer-is ∙ rw t) _ refl
 
 -- An outcome that was written out has ended with the number, the line and the length of the definitions.
-pub ended-as : {o : RunOutcome} {before after : List ℕ} {r : Finished} → WrittenOut o before r after
+pub ended-as : {o : RunOutcome} {before after : List ℕ} {r : WrittenEnd} → WrittenOut o before r after
     → endedBy r ≡ endedOf o before
 ended-as w =
     λ i.

@@ -1,4 +1,4 @@
--- What an outcome is written out to, with a buffer lent, and its number and line. Finished and Ended are declared in
+-- What an outcome is written out to, with a buffer lent, and its number and line. WrittenEnd and Ended are declared in
 -- src/lib.rt. Assumes nothing.
 use Prim.Native.Nat.{ℕ}
 use mathlib.Core.Path.{_≡_}
@@ -6,17 +6,17 @@ use mathlib.Core.List.{List}
 use lib.ListN.{length}
 use Rattle.spec_report.specs.Outcomes.{RunOutcome, ended, handed, left}
 use Rattle.spec_report.specs.Report.{endNumber, endLine}
-use Rattle.report_ending.specs.declared.Finished.{Finished}
+use Rattle.report_ending.specs.declared.WrittenEnd.{WrittenEnd}
 use Rattle.report_ending.specs.declared.Ended.{Ended}
 
 -- An outcome was written out: how it ended, how long the report is, and what the buffer then holds.
-pub record WrittenOut (o : RunOutcome) (before : List ℕ) (r : Finished) (after : List ℕ) : Type 0 where
+pub record WrittenOut (o : RunOutcome) (before : List ℕ) (r : WrittenEnd) (after : List ℕ) : Type 0 where
   pub end-is : r .end ≡ ended o before
   pub length-is : r .length ≡ length (handed o before)
   pub left-is : after ≡ left o before
 
 -- How a run ended, by its number and line.
-abbrev pub endedBy : Finished → Ended
+abbrev pub endedBy : WrittenEnd → Ended
 endedBy f = record { number = endNumber (f .end); line = endLine (f .end); length = f .length }
 
 -- The number, the line and the length of the report of an outcome, with a buffer lent.

@@ -8,16 +8,16 @@ ghost use Rattle.spec_report.specs.Report.{endNumber, endLine, endEntry};
 ghost use Rattle.spec_report.specs.Outcomes.{reported, endOf};
 ghost use Rattle.step_cells.specs.Tables.{lent};
 ghost use Rattle.run_judge.specs.Rulings.{haltOf};
-ghost use Rattle.report_whole.specs.Writing.{Reportable, reportBytes};
+ghost use Rattle.report_writer.specs.Writing.{Reportable, reportBytes};
 ghost use Rattle.report_ending.specs.Finishing.{WrittenOut, endedBy};
 use read_tables::PLAN_PLACES;
-use report_whole::WrittenLength;
+use report_writer::WrittenLength;
 use spec_format::Fault;
 use spec_report::End;
 use step_cells::CELL_PLACES;
 
 // How a run ended, and the length of its report, 0 where none is written.
-pub struct Finished {
+pub struct WrittenEnd {
     pub end: End,
     pub length: usize,
 }
@@ -95,7 +95,7 @@ pub fn end_of(halt: u32, entry: usize, line: usize, count: usize) -> End
 }
 
 // How a run ended, by its number and line.
-pub fn ended_of(finished: Finished) -> Ended
+pub fn ended_of(finished: WrittenEnd) -> Ended
     ensures { λ r. ⌜ r ≡ endedBy finished ⌝ }
 {
     let end = finished.end;
@@ -115,7 +115,7 @@ pub fn finish(
     store: &[u32],
     commits: &[[u32; 3]; 4000],
     end: End,
-) -> Finished
+) -> WrittenEnd
     requires { ⌜ Reportable (now plan) (lent (now cells) (now stat) (now store) [] [] [] (now commits)) ⌝ }
     requires { ⌜ endLine end ≤ 65536 ⌝ }
     ensures { λ r. ⌜ WrittenOut
@@ -127,7 +127,7 @@ pub fn finish(
 {
     let number = end_number(end);
     let line = end_line(end);
-    let written = report_whole::write_report(
+    let written = report_writer::write_report(
         buffer,
         plan,
         cells,
@@ -138,8 +138,8 @@ pub fn finish(
         line as u32,
     );
     match written {
-        WrittenLength::Whole(length) => Finished { end, length },
-        WrittenLength::NoRoom => Finished {
+        WrittenLength::Whole(length) => WrittenEnd { end, length },
+        WrittenLength::NoRoom => WrittenEnd {
             end: End::NoRoom,
             length: 0,
         },

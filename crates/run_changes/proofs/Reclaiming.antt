@@ -18,7 +18,7 @@ use Rattle.step_cells.proofs.CellPlaces.{
   only-none,
   only-wider,
 }
-use Rattle.run_changes.proofs.FirstPlaces.{one-more}
+use Rattle.run_changes.proofs.PutOneByOne.{one-more}
 
 -- These numbers stand in the first places of job p's copy list.
 pub record Puts (p : ℕ) (ns : List ℕ) (t u : List ℕ) : Type 0 where

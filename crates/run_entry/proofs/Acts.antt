@@ -34,7 +34,7 @@ use Rattle.step_cells.specs.Book.{Book, bookOf, withActive, counted, committing
 use Rattle.step_cells.proofs.CellPlaces.{only-set, places-length}
 use Rattle.step_cells.proofs.Views.{work-at, works-step, works-length}
 use Rattle.step_cells.proofs.Books.{OnlyCells, machine-free, whole-so, halted, noting, halted-so, noted-so}
-use Rattle.step_registers.specs.Registers.{goto}
+use Rattle.step_shared.specs.Registers.{goto}
 use Rattle.run_judge.specs.WhoRuns.{WhoRuns}
 use Rattle.run_judge.proofs.WhoRuns.{OnlyDiffers, who-runs-stay, who-runs-after}
 use Rattle.run_entry.specs.Stepping.{Called, Stepped}

@@ -22,7 +22,7 @@ use Rattle.spec_machine.specs.Places.{isActive}
 use Rattle.spec_machine.specs.Moves.{read, accesses, wordOf, move}
 use Rattle.spec_machine.specs.Steps.{mayDecide, replaced}
 use Rattle.spec_machine.specs.Machine.{inRow, sharedIn, workOf}
-use Rattle.spec_machine.specs.Ranges.{WorkRanges, AtPlace, RoomFor, InsideMove}
+use Rattle.spec_machine.specs.Ranges.{WorkRanges, AtPlace, RoomFor, MoveInside}
 use Rattle.spec_machine.proofs.Tests.{or-l, or-r}
 use Rattle.step_cells.specs.declared.Registers.{Registers}
 use Rattle.step_cells.specs.Tables.{Tables, ownOf, workWith, idle, machineOf}
@@ -108,7 +108,7 @@ module _ {t : List ℕ} {ws : List Registers} {x : Tables} (k : Kept t ws x) whe
         }
 
     -- A job inside a move.
-    module _ (st : Stage) (i : InsideMove (planIn t) st record-of) where
+    module _ (st : Stage) (i : MoveInside (planIn t) st record-of) where
       update-there : w .tr < updatesIn t
       update-there = omega (arith, within (planIn t .updates) (w .tr) (w .index) (i .in-moves), updates-in t)
 
@@ -138,7 +138,7 @@ module _ {t : List ℕ} {ws : List Registers} {x : Tables} (k : Kept t ws x) whe
           }
 
     -- Room for what a stage adds, by the move that the job is at.
-    room-at : (st : Stage) → InsideMove (planIn t) st record-of → RoomFor (planIn t) st record-of
+    room-at : (st : Stage) → MoveInside (planIn t) st record-of → RoomFor (planIn t) st record-of
         → RoomAt st t (x .cells) p w
     room-at Stage.Check i h = tt
     room-at Stage.List i h = rw (← same-move Stage.List i) h

@@ -6,7 +6,7 @@ ghost use lib.ListN.{length, getD, set};
 ghost use Rattle.step_cells.specs.CellTable.{cellPlaces, entriesAt};
 ghost use Rattle.step_cells.specs.Tables.{lent};
 ghost use Rattle.step_cells.specs.Fits.{PlanFits};
-ghost use Rattle.step_registers.specs.Registers.{goto};
+ghost use Rattle.step_shared.specs.Registers.{goto};
 ghost use Rattle.run_entry.specs.Stepping.{Called, Steps, Stepped};
 ghost use Rattle.run_entry.specs.Acting.{Asked, Gives};
 use read_tables::PLAN_PLACES;
@@ -42,7 +42,7 @@ fn call(
     step_cells::put_update(cells, job, update as u32);
     run_active_jobs::set_active(plan, cells, job, 1);
     count_entry(cells);
-    step_registers::go_to(w, Place::A1)
+    step_shared::go_to(w, Place::A1)
 }
 
 // "A `step` does one item for the active job p of highest priority on card R."

@@ -168,7 +168,7 @@ runs-none : (plan : Plan) (m : Machine) (card : ℕ) → ((k : ℕ) → isActive
 runs-none plan m card idle zero = refl
 runs-none plan m card idle (suc n) = rw (idle n) (runs-none plan m card idle n)
 
--- Whatever is read from a table of records at rest is at rest, what is read past its end too.
+-- Whatever is read from a tabulated list of records at rest is at rest, what is read past its end too.
 at-rest-then :
     (ws : List Working) (w : Working) → ((k : ℕ) → isActive (getD ws k noWork .place) ≡ false)
     → isActive (w .place) ≡ false → (k : ℕ) → isActive (getD (ws ++ (w ∷ [])) k noWork .place) ≡ false
@@ -177,7 +177,7 @@ at-rest-then [] w all h (suc k) = refl
 at-rest-then (x ∷ ws) w all h zero = all zero
 at-rest-then (x ∷ ws) w all h (suc k) = at-rest-then ws w (λ j. all (suc j)) h k
 
--- So a table of records at rest has no active job.
+-- So a tabulated list of records at rest has no active job.
 at-rest :
     (f : ℕ → Working) → ((i : ℕ) → isActive (f i .place) ≡ false) → (n k : ℕ)
     → isActive (getD (tabulate n f) k noWork .place) ≡ false

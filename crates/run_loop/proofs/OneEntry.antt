@@ -93,11 +93,11 @@ halted halt a (Judgement.Runs p) is = went-on halt a (Judgement.Runs p) refl is 
 halted halt a (Judgement.Refused x) is = halted-is x
 
 -- How many events there are.
-recorded-many : (plan : Plan) (m : Machine) (h : List Event) (j : Judgement)
+history-after-many : (plan : Plan) (m : Machine) (h : List Event) (j : Judgement)
     → entriesBy j (length h) ≡ length (historyAfter plan m h j)
-recorded-many plan m h (Judgement.Calls job u) = sym (length-append h _)
-recorded-many plan m h (Judgement.Runs p) = sym (length-append h _)
-recorded-many plan m h (Judgement.Refused x) = refl
+history-after-many plan m h (Judgement.Calls job u) = sym (length-append h _)
+history-after-many plan m h (Judgement.Runs p) = sym (length-append h _)
+history-after-many plan m h (Judgement.Refused x) = refl
 
 -- At most one more is accepted.
 one-at-most : (j : Judgement) (n : ℕ) → entriesBy j n ≤ n + 1
@@ -188,7 +188,7 @@ module _ (t : List ℕ) (all done rest : List Entry) (e : Entry) {ws : List Regi
           counted =
               a .entries-are
               ∙ ap (entriesBy j) (g .counted)
-              ∙ recorded-many plan (run .machine) (run .history) j
+              ∙ history-after-many plan (run .machine) (run .history) j
               ∙ ap (λ (r : Run). length (r .history)) (sym next);
           few-done =
               omega (

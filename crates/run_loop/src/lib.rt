@@ -30,7 +30,7 @@ pub fn run_records<'e, 'a, 'b>(
         (lent (now (cells .exit)) (now (stat .exit)) (now (store .exit)) (now (addr .exit)) (now (old .exit))
         (now (new .exit)) (now (commits .exit)))) ⌝ }
 {
-    let first = step_registers::idle();
+    let first = step_shared::idle();
     let mut works = [first; 16];
     let mut i = 0;
     while i < n {

@@ -6,7 +6,7 @@ use native.Mathlib.Numerals.{add-one}
 use lib.ListN.{length, set, drop}
 use lib.Seq.{drop-cons, drop-length, set-at}
 use Rattle.spec_format.specs.Plan.{tabulate}
-use Rattle.spec_format.proofs.Tabulated.{length-table}
+use Rattle.spec_format.proofs.Tabulated.{length-tabulate}
 
 -- The first n places of l are filled.
 abbrev pub filled : {A : Type 0} → ℕ → (ℕ → A) → List A → List A
@@ -17,7 +17,7 @@ pub fill : {A : Type 0} (f : ℕ → A) (l : List A) (n : ℕ) → n < length l
     → set (filled n f l) n (f n) ≡ filled (n + 1) f l
 fill f l n h =
     rw (add-one, drop-cons l n (f n) h)
-    (set-at (tabulate n f) _ (drop (suc n) l) (f n) n (length-table n f)
+    (set-at (tabulate n f) _ (drop (suc n) l) (f n) n (length-tabulate n f)
     ∙ sym (append-assoc (tabulate n f) (f n ∷ []) (drop (suc n) l)))
 
 -- All places.

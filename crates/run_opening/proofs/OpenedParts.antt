@@ -7,7 +7,7 @@ use native.Mathlib.Decide.{ℕ-discrete}
 use native.Mathlib.Omega.{arith}
 use lib.ListN.{length, getD, replicate, length-replicate}
 use Rattle.spec_format.specs.Plan.{tabulate}
-use Rattle.spec_format.proofs.Tabulated.{table-same}
+use Rattle.spec_format.proofs.Tabulated.{tabulate-same}
 use Rattle.step_cells.specs.CellTable.{Filled, cellPlaces, places, annAt, runningAt, bankAt, copyAt}
 use Rattle.step_cells.proofs.CellPlaces.{places-out}
 use Rattle.run_opening.specs.OpenedParts.{NoCopy, Parts}
@@ -45,7 +45,7 @@ shared :
     {copies n : ℕ} {t u : List ℕ} → Copies copies n t u → (at m : ℕ) → at + m ≤ 128
     → places u at m ≡ places t at m
 unfolding places
-shared h at m l = table-same m _ _ (λ i s. h .kept (at + i) (λ q. inl (omega arith)))
+shared h at m l = tabulate-same m _ _ (λ i s. h .kept (at + i) (λ q. inl (omega arith)))
 
 -- Zero stands at every place of zeros, and past them.
 pub zero-at : (m j : ℕ) → _≡_ {A = ℕ} (getD (replicate m 0) j 0) 0

@@ -9,7 +9,7 @@ use lib.IntN.{ℤ, pos}
 use lib.ListN.{getD, replicate, getD-replicate}
 use Rattle.spec_format.specs.Sound.{Sound}
 use Rattle.spec_format.specs.Plan.{tabulate}
-use Rattle.spec_format.proofs.Tabulated.{table-same}
+use Rattle.spec_format.proofs.Tabulated.{tabulate-same}
 use Rattle.read_tables.specs.PlanTable.{sizesIn, planIn}
 use Rattle.spec_machine.specs.Working.{opening}
 use Rattle.spec_machine.specs.Machine.{openingOf, openingStore}
@@ -80,7 +80,7 @@ module _ (t cells : List ℕ) (h : Parts (sizesIn t .jobs) (sizesIn t .copies) c
   -- All records.
   pub opened-jobs : worksOf cells (replicate 16 idle) ≡ openingOf (planIn t) .jobs
   unfolding worksOf openingOf
-  opened-jobs = table-same 16 _ _ opened-job
+  opened-jobs = tabulate-same 16 _ _ opened-job
 
   -- The book.
   pub opened-book : sizesIn t .cards ≤ 8 → (x : Tables) → x .cells ≡ cells → Blank t (bookOf x)

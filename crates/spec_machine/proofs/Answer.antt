@@ -27,7 +27,7 @@ use Rattle.spec_machine.specs.Memory.{jobOf, updateOf, movesOf, afterUpd
 use Rattle.spec_machine.specs.Places.{isActive}
 use Rattle.spec_machine.specs.Machine.{Machine, blockIn, seen}
 use Rattle.spec_machine.specs.History.{Event, announces, commits, returns, commitsIn, latest, Run}
-use Rattle.spec_machine.specs.Demand3.{isOpen, isStored, cardOf, passing, memoryAfter, Holds}
+use Rattle.spec_machine.specs.Demand3.{isDecidedUncommitted, isStored, cardOf, passing, memoryAfter, Holds}
 use Rattle.spec_machine.proofs.View.{decided, isFinished, State, stateIn}
 use Rattle.spec_machine.proofs.SmallSteps.{exec, layout}
 use Rattle.spec_machine.proofs.Attempts.{settledBank}
@@ -106,11 +106,11 @@ module _
     status : s .sh .stat job ≡ decided winner
 
   -- A call that is decided and uncommitted is such a one.
-  deciding : (c : ℕ) → isOpen h c ≡ true → Deciding c
+  deciding : (c : ℕ) → isDecidedUncommitted h c ≡ true → Deciding c
   deciding c = go (standing c)
     where
       -- by how the call stands
-      go : {c : ℕ} → Standing c → isOpen h c ≡ true → Deciding c
+      go : {c : ℕ} → Standing c → isDecidedUncommitted h c ≡ true → Deciding c
       go (current k on) e =
           let d = decided-by (s .sh .stat k) (sym (told .current k on .open-is) ∙ e) in
           record { job = k; winner = d .0; active = on; latest-is = refl; status = d .1 }
@@ -171,7 +171,7 @@ module _
 
   module _ (cards : CardsHold (layout plan) s) (epochs : EpochsHold (layout plan) s) where
     -- At most one call is decided and uncommitted.
-    single : (c d : ℕ) → isOpen h c ≡ true → isOpen h d ≡ true → c ≡ d
+    single : (c d : ℕ) → isDecidedUncommitted h c ≡ true → isDecidedUncommitted h d ≡ true → c ≡ d
     single c d e f =
         let x = deciding c e in
         let y = deciding d f in
@@ -190,7 +190,7 @@ module _
         rw (x .1) (chief .1)
 
     -- Where no call is decided and uncommitted, no status is a job's number.
-    pub none-decided : ((c : ℕ) → isOpen h c ≡ false) → (q w : ℕ) → s .sh .stat q ≢ decided w
+    pub none-decided : ((c : ℕ) → isDecidedUncommitted h c ≡ false) → (q w : ℕ) → s .sh .stat q ≢ decided w
     none-decided none q w e =
         false≢true
         (sym (none (latest q h))
@@ -209,7 +209,7 @@ module _
     module _ (contents : ContentsHold plan s g) where
       -- Where no call is decided and uncommitted, each block seen through the bank has the memory's content.
       settled-block :
-          ((c : ℕ) → isOpen h c ≡ false) → (b : ℕ) → b < plan .sizes .blocks
+          ((c : ℕ) → isDecidedUncommitted h c ≡ false) → (b : ℕ) → b < plan .sizes .blocks
           → s .sh .blk (s .sh .bank b) ≡ blocksOf plan (memoryAfter plan es h) b
       settled-block none b l =
           sym (seen-in (layout plan) (s .sh .bank) (s .sh .blk) b l)
@@ -217,7 +217,7 @@ module _
 
       -- Where one is, a block that H41 has not stored since its deciding has the memory's content.
       kept-block :
-          (c b : ℕ) → isOpen h c ≡ true → b < plan .sizes .blocks → isStored h c b ≡ false
+          (c b : ℕ) → isDecidedUncommitted h c ≡ true → b < plan .sizes .blocks → isStored h c b ≡ false
           → s .sh .blk (s .sh .bank b) ≡ blocksOf plan (memoryAfter plan es h) b
       kept-block c b e l n =
           let x = deciding c e in
@@ -228,7 +228,7 @@ module _
 
       -- And a block that H41 has stored since has the content with the update run whole.
       stored-block :
-          Sound plan → (c b : ℕ) → isOpen h c ≡ true → b < plan .sizes .blocks → isStored h c b ≡ true
+          Sound plan → (c b : ℕ) → isDecidedUncommitted h c ≡ true → b < plan .sizes .blocks → isStored h c b ≡ true
           → s .sh .blk (s .sh .bank b)
           ≡ blocksOf plan (afterUpdate (memoryAfter plan es h) (movesOf (plan .updates) es c)) b
       stored-block ok c b e l n =

@@ -22,7 +22,7 @@ use Rattle.spec_text.proofs.Cases.{by-test}
 use Rattle.spec_text.specs.FirstPlaces.{inFirstPlaces}
 use Rattle.spec_format.specs.declared.Move.{Move}
 use Rattle.spec_format.specs.Plan.{Plan, tabulate}
-use Rattle.spec_format.proofs.Tabulated.{table-more}
+use Rattle.spec_format.proofs.Tabulated.{tabulate-more}
 use Rattle.spec_machine.specs.declared.Stage.{Stage}
 use Rattle.spec_machine.specs.declared.Place.{Place}
 use Rattle.spec_machine.specs.declared.Working.{Working}
@@ -60,7 +60,7 @@ use Rattle.spec_machine.proofs.SmallSteps.{
 }
 use Rattle.spec_machine.proofs.Attempts.{lists, copies, Shape, newCopies}
 use Rattle.spec_machine.proofs.AttemptSteps.{Begun}
-use Rattle.spec_machine.specs.Ranges.{StageOf, InsideMove}
+use Rattle.spec_machine.specs.Ranges.{StageOf, MoveInside}
 use Rattle.spec_machine.proofs.Contents.{Clear}
 use Rattle.spec_machine.proofs.Tests.{shut-test, test}
 
@@ -186,7 +186,7 @@ module _
   rest-same = λ i. rest plan (withAccess (same-index i) (same-access i) (taking (same-update i) w))
 
   -- If one is inside a move, the other is, at any stage that fits.
-  pub inside-same : (st next : Stage) → InsideMove plan st w → StageOf next (access plan w) → InsideMove plan next x
+  pub inside-same : (st next : Stage) → MoveInside plan st w → StageOf next (access plan w) → MoveInside plan next x
   inside-same st next I h =
       record {
         in-moves = rw (same-update, same-index) (I .in-moves);
@@ -212,7 +212,7 @@ rest-nothing plan w h l = rest-moves plan w h ∙ rw (drop-of-length-le (moves p
 pub onward-rest :
     (Q : Working → Type 0) (plan : Plan) (w : Working) → w .index < length (moves plan w)
     → w .access < length (accesses (move plan w))
-    → ((m a : ℕ) → InsideMove plan Stage.Check (goto (Place.Move Stage.Check) (withAccess m a w))
+    → ((m a : ℕ) → MoveInside plan Stage.Check (goto (Place.Move Stage.Check) (withAccess m a w))
     → ahead plan Stage.Check (goto (Place.Move Stage.Check) (withAccess m a w)) ≡ rest plan w
     → Q (goto (Place.Move Stage.Check) (withAccess m a w)))
     → ((m a : ℕ) → rest plan w ≡ [] → Q (goto Place.H22 (withAccess m a w))) → Q (onward plan w)
@@ -253,7 +253,7 @@ begin-cases Q (m ∷ ms) f g = f (omega arith)
 -- After H21: at the check of the first read or write, with the whole update ahead, or at H22, with nothing to do.
 pub begin-ahead :
     (Q : Place → Type 0) (plan : Plan) (u : ℕ) (w : Working)
-    → (InsideMove plan Stage.Check (goto (Place.Move Stage.Check) (taking u w))
+    → (MoveInside plan Stage.Check (goto (Place.Move Stage.Check) (taking u w))
     → ahead plan Stage.Check (goto (Place.Move Stage.Check) (taking u w)) ≡ layout plan .ops u
     → Q (Place.Move Stage.Check))
     → (layout plan .ops u ≡ [] → Q Place.H22) → Q (begin (getD (plan .updates) u []))
@@ -296,7 +296,7 @@ module _ (os before : List Op) (addr : ℕ → ℕ) (w : Working) where
         wrote = unseen-set (λ x. eqb x 2) (w .dirty) k 1 (rw (R .dirty) h) (rw e) i;
         curr = seen-set (λ x. x) (w .curr) k b (rw (R .curr) h) i;
         order =
-            table-more (w .numblks) addr (upd addr (w .numblks) k) k
+            tabulate-more (w .numblks) addr (upd addr (w .numblks) k) k
             (λ i h. sym (upd-other addr (w .numblks) k i (λ e. omega arith))) (upd-same addr (w .numblks) k) i;
         used = w .dirtycnt;
       }

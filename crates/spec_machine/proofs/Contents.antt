@@ -25,7 +25,7 @@ use Rattle.spec_machine.specs.declared.Version.{Version}
 use Rattle.spec_machine.specs.declared.Working.{Working}
 use Rattle.spec_machine.specs.declared.Store.{Store}
 use Rattle.spec_machine.specs.Places.{isActive}
-use Rattle.spec_machine.specs.Ranges.{InsideMove}
+use Rattle.spec_machine.specs.Ranges.{MoveInside}
 use Rattle.spec_machine.proofs.ChangedAt.{upd}
 use Rattle.spec_machine.proofs.View.{Status, undecided, decided, finished, isUndecided, statusIn, Scene, State}
 use Rattle.spec_machine.proofs.Sizes.{Roomy}
@@ -113,7 +113,7 @@ Clear w = (b : ℕ) → getD (w .dirty) b 0 ≡ 0
 abbrev pub OwnAt : Plan → (ℕ → ℕ) → Working → Part → Type 0
 OwnAt plan addr w elsewhere = Clear w
 OwnAt plan addr w (moving st) =
-    InsideMove plan st w × Own (layout plan) (copyOf w) (attempt (ahead plan st w) addr w)
+    MoveInside plan st w × Own (layout plan) (copyOf w) (attempt (ahead plan st w) addr w)
 OwnAt plan addr w publish = w .numblks ≤ plan .sizes .blocks
 OwnAt plan addr w deciding = Unit {0}
 OwnAt plan addr w first = Clear w

@@ -38,7 +38,7 @@ use Rattle.spec_machine.proofs.View.{
   undecided≢decided,
   decider-same,
 }
-use Rattle.spec_format.proofs.Tabulated.{length-table, getD-table}
+use Rattle.spec_format.proofs.Tabulated.{length-tabulate, getD-tabulate}
 use Rattle.spec_machine.proofs.SmallSteps.{Op, exec, Attempt, attempt, copyOf, Layout, layout}
 use Rattle.spec_machine.proofs.Attempts.{seen, stock, Stock, settledBank, Live}
 use Rattle.spec_machine.proofs.AttemptSteps.{seen-ext, live-other}
@@ -674,17 +674,17 @@ module _ (plan : Plan) (s : State) (D : EpochsHold (layout plan) s) (g : Ghost) 
       row₆ : RowIs plan sh₆ g₆ (upd job p j) bank (r₆ .curr) (r₆ .order) p
       row₆ =
           record {
-            count = W .count ∙ sym (length-table (job p .numblks) (addrlist p));
+            count = W .count ∙ sym (length-tabulate (job p .numblks) (addrlist p));
             addr = λ i l. sym (at i l);
             olds = λ i l. rw (at i l) (O i (in-row i l));
             news = λ i l. rw (at i l) (W .news i (in-row i l));
           }
         where
           in-row : (i : ℕ) → i < length (r₆ .order) → i < job p .numblks
-          in-row i l = rw (length-table (job p .numblks) (addrlist p)) at l
+          in-row i l = rw (length-tabulate (job p .numblks) (addrlist p)) at l
 
           at : (i : ℕ) → i < length (r₆ .order) → getD (r₆ .order) i 0 ≡ addrlist p i
-          at i l = getD-table (job p .numblks) (addrlist p) 0 i (in-row i l)
+          at i l = getD-tabulate (job p .numblks) (addrlist p) 0 i (in-row i l)
 
       -- The decided update.
       here₆ : Settled plan sh₆ g₆ (upd job p j) h p

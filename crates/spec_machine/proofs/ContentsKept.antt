@@ -54,7 +54,7 @@ use Rattle.spec_machine.specs.Steps.{
   mayCommit,
   afterDeciding,
 }
-use Rattle.spec_machine.specs.Ranges.{StageOf, InsideMove}
+use Rattle.spec_machine.specs.Ranges.{StageOf, MoveInside}
 use Rattle.spec_machine.proofs.ChangedAt.{upd, upd-same, upd-other, upd-at, upd-elim}
 use Rattle.spec_machine.proofs.View.{
   Status,
@@ -82,7 +82,7 @@ use Rattle.spec_machine.proofs.View.{
   decided≢finished,
 }
 use Rattle.spec_machine.proofs.Sizes.{Roomy, Fits}
-use Rattle.spec_format.proofs.Tabulated.{length-table}
+use Rattle.spec_format.proofs.Tabulated.{length-tabulate}
 use Rattle.spec_machine.proofs.Tests.{choice, either, shut-test, test, store-elim, and-l, and-r}
 use Rattle.spec_machine.proofs.Tests.{or-l, or-r, same-version, failed, stale}
 use Rattle.spec_machine.proofs.SmallSteps.{
@@ -378,7 +378,7 @@ module _ (plan : Plan) (ok : Sound plan) (sh : Shared) (job : ℕ → Working)
     -- A small step that stores nothing, to a stage of a move.
     goes-on :
         (st : Stage) (w : Working) (os : List Op) → w .copy ≡ job p .copy → Roomy w
-        → InsideMove plan st (goto (Place.Move st) w) → ahead plan st (goto (Place.Move st) w) ≡ os
+        → MoveInside plan st (goto (Place.Move st) w) → ahead plan st (goto (Place.Move st) w) ≡ os
         → Own P (copyOf (job p)) (attempt os addr w)
         → (w .ver ≡ v → v .flag ≡ true → isUndecided (stat h) ≡ true
         → Live P (P .ops (sh .trans h)) (g .mem) (sh .bank) blk (copyOf (job p)) (attempt os addr w) × Olds plan
@@ -394,7 +394,7 @@ module _ (plan : Plan) (ok : Sound plan) (sh : Shared) (job : ℕ → Working)
     -- A run lists at most all blocks.
     few-listed : (os : List Op) (w : Working) → Own P (copyOf (job p)) (attempt os addr w) → w .numblks ≤ P .blocks
     few-listed os w o =
-        rw (length-table (w .numblks) addr) at
+        rw (length-tabulate (w .numblks) addr) at
         (at-most (P .blocks) (tabulate (w .numblks) addr) (o .distinct)
         (λ k i. o .in-blocks k (sym (o .order-is k) ∙ i)))
 
@@ -413,7 +413,7 @@ module _ (plan : Plan) (ok : Sound plan) (sh : Shared) (job : ℕ → Working)
         })
 
     -- The clauses of the run that the job is in, at a stage.
-    module _ (st : Stage) (I : InsideMove plan st (job p))
+    module _ (st : Stage) (I : MoveInside plan st (job p))
         (o : Own P (copyOf (job p)) (attempt (ahead plan st (job p)) addr (job p)))
         (L : job p .ver ≡ v → v .flag ≡ true → isUndecided (stat h) ≡ true
         → LiveAt plan (s .sh) g job (ahead plan st (job p)) p (job p) × Olds plan (s .sh) g job p (job p)) where
@@ -555,7 +555,7 @@ module _ (plan : Plan) (ok : Sound plan) (sh : Shared) (job : ℕ → Working)
                   });
               fits =
                   let l : length (r .order) < P .blocks = fewer-listed P o k in-blocks not-listed in
-                  let q : length (r .order) ≡ job p .numblks = length-table (job p .numblks) addr in
+                  let q : length (r .order) ≡ job p .numblks = length-tabulate (job p .numblks) addr in
                   let m = ok .blocks in
                   omega arith;
             }
@@ -709,7 +709,7 @@ module _ (plan : Plan) (ok : Sound plan) (sh : Shared) (job : ℕ → Working)
 
     -- The stages of a move.
     stages :
-        (st : Stage) → InsideMove plan st (job p)
+        (st : Stage) → MoveInside plan st (job p)
         → Own P (copyOf (job p)) (attempt (ahead plan st (job p)) addr (job p))
         → (job p .ver ≡ v → v .flag ≡ true → isUndecided (stat h) ≡ true
         → LiveAt plan (s .sh) g job (ahead plan st (job p)) p (job p) × Olds plan (s .sh) g job p (job p))

@@ -20,7 +20,7 @@ use Rattle.spec_format.specs.Reading.{reading, accepted}
 use Rattle.spec_format.proofs.Sound.{accepted-sound}
 use Rattle.spec_machine.specs.Machine.{workOf}
 use Rattle.spec_machine.specs.History.{runOf}
-use Rattle.spec_machine.specs.Demand3.{isOpen, Holds, Demand3}
+use Rattle.spec_machine.specs.Demand3.{isDecidedUncommitted, Holds, Demand3}
 use Rattle.spec_machine.specs.StockRule.{blockNumbers, bankNumber, StockRule}
 use Rattle.spec_machine.proofs.View.{stateIn}
 use Rattle.spec_machine.proofs.Sizes.{Sized, Roomy}
@@ -56,7 +56,7 @@ demand3-text form text plan listed lines read =
 pub stock-rule :
     (form : Form) (text : List ℕ) (plan : Plan) (listed : List Listed) (lines : ℕ)
     → reading form text ≡ accepted plan listed lines → (es : List Entry)
-    → ((c : ℕ) → isOpen (runOf plan es .history) c ≡ false) → StockRule plan (runOf plan es .machine)
+    → ((c : ℕ) → isDecidedUncommitted (runOf plan es .history) c ≡ false) → StockRule plan (runOf plan es .machine)
 stock-rule form text plan listed lines read es none =
     let ok : Sound plan = accepted-sound form text plan listed lines read in
     let inv : Inv plan es (runOf plan es) = always plan ok es in

@@ -21,7 +21,7 @@ use Rattle.spec_machine.specs.Steps.{sameVersion, stage, item}
 use Rattle.spec_machine.specs.Machine.{openingOf, stored, carriedOut, itemOf, seen}
 use Rattle.spec_machine.specs.Entries.{judge, acted}
 use Rattle.spec_machine.specs.History.{Run, begun, entered, runOf}
-use Rattle.spec_machine.specs.Demand3.{isOpen, isStored, passing, memoryAfter, Demand3}
+use Rattle.spec_machine.specs.Demand3.{isDecidedUncommitted, isStored, passing, memoryAfter, Demand3}
 use Rattle.spec_machine.proofs.Demand3.{demand3}
 
 -- The plan of document 01's run T.
@@ -100,7 +100,7 @@ entries n = call 0 0 ∷ replicate n (step 0)
 abbrev shown : ℕ → Run → Shown
 shown n r =
     record {
-      isDecided = isOpen (r .history) 1;
+      isDecided = isDecidedUncommitted (r .history) 1;
       isStored₀ = isStored (r .history) 1 0;
       isStored₁ = isStored (r .history) 1 1;
       seen₀ = seen threeCards (r .machine) 0;

@@ -23,7 +23,7 @@ use Rattle.spec_text.proofs.Cases.{by-test, both, neither}
 use Rattle.spec_text.specs.FirstPlaces.{inFirstPlaces}
 use Rattle.spec_format.specs.declared.Entry.{Entry}
 use Rattle.spec_format.specs.Plan.{Plan, jobIn, tabulate}
-use Rattle.spec_format.proofs.Tabulated.{length-table, getD-table}
+use Rattle.spec_format.proofs.Tabulated.{length-tabulate, getD-tabulate}
 use Rattle.spec_format.specs.Sound.{Sound}
 use Rattle.spec_machine.specs.declared.Place.{Place}
 use Rattle.spec_machine.specs.declared.Working.{Working}
@@ -402,7 +402,7 @@ module _ (plan : Plan) (ok : Sound plan) where
   sized-stored m sized p below w Store.Published f =
       sized-cells (machine.withNew p (newNumbers m p w) m)
       (sized-new m sized p (newNumbers m p w) (in-array plan ok p below)
-      (rw (length-table (w .numblks) (λ i. getD (w .curr) (inRow (m .addrlist) p i) 0)) f)) _ (sized .ann)
+      (rw (length-tabulate (w .numblks) (λ i. getD (w .curr) (inRow (m .addrlist) p i) 0)) f)) _ (sized .ann)
       (sized .stat)
       (sized .trans)
       (sized .bank)
@@ -776,9 +776,9 @@ module _ (plan : Plan) (ok : Sound plan) where
             eight = refl;
             opens =
                 job-seen plan (openingOf plan) k h
-                ∙ getD-table 16 (λ q. opening (tabulate 8 (λ i. q * plan .sizes .copies + i))) noWork k
+                ∙ getD-tabulate 16 (λ q. opening (tabulate 8 (λ i. q * plan .sizes .copies + i))) noWork k
                 (in-array plan ok k h);
-            own = λ i _ l. getD-table 8 (λ i. k * plan .sizes .copies + i) 0 i (omega (arith, ok .copies));
+            own = λ i _ l. getD-tabulate 8 (λ i. k * plan .sizes .copies + i) 0 i (omega (arith, ok .copies));
             far = λ i n _. absurd (omega arith);
           }
       go (no h) =
@@ -789,7 +789,7 @@ module _ (plan : Plan) (ok : Sound plan) where
             own = λ i n _. absurd (omega arith);
             far =
                 λ i _ l.
-                getD-table 8 (λ i. copyBlocks plan + plan .sizes .blocks + (k * plan .sizes .copies + i)) 0 i
+                getD-tabulate 8 (λ i. copyBlocks plan + plan .sizes .blocks + (k * plan .sizes .copies + i)) 0 i
                 (omega (arith, ok .copies));
           }
 
@@ -804,7 +804,7 @@ module _ (plan : Plan) (ok : Sound plan) where
             λ k.
             ap (statusIn (plan .sizes .jobs)) (getD-all 17 k (pos (plan .sizes .jobs)))
             ∙ finished-means (plan .sizes .jobs);
-        bank = λ b h. getD-table 16 (λ k. copyBlocks plan + k) 0 b (omega (arith, ok .blocks));
+        bank = λ b h. getD-tabulate 16 (λ k. copyBlocks plan + k) 0 b (omega (arith, ok .blocks));
         idle = λ k. ap (λ (w : Working). w .place) (job-opened k .opens);
         round = λ k. ap (λ (w : Working). w .round) (job-opened k .opens);
         taken = λ k. ap (λ (w : Working). w .ver) (job-opened k .opens);

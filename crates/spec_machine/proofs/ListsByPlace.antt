@@ -1,5 +1,5 @@
--- Lists read by their places: a stored element, a filled list, a table, a copied part, and a list that is cut into
--- blocks of equal length. Assumes nothing.
+-- Lists read by their places: a stored element, a filled list, a tabulated one, a copied part, and a list that is cut
+-- into blocks of equal length. Assumes nothing.
 --
 -- A store into a list is a change of the function that reads it, at one place. In a list of blocks word i of block b
 -- stands at b times the length plus i, and no other word does: so a word stored or a block copied changes one block.
@@ -30,7 +30,7 @@ use borrow.Author.Tests.{ltb-true, ltb-false, lt-ltb}
 use Rattle.spec_text.proofs.Cases.{by-test}
 use Rattle.spec_text.specs.FirstPlaces.{inFirstPlaces}
 use Rattle.spec_format.specs.Plan.{tabulate}
-use Rattle.spec_format.proofs.Tabulated.{length-table, getD-table}
+use Rattle.spec_format.proofs.Tabulated.{length-tabulate, getD-tabulate}
 use Rattle.spec_machine.proofs.ChangedAt.{upd, upd-elim}
 
 -- A list with an element stored is the function that reads it, changed at that place.
@@ -83,7 +83,7 @@ first-places-at (n ∷ ns) [] (suc i) =
     ap (λ (l : List ℕ). getD (ns ++ l) i 0) (sym (drop-nil (length ns))) ∙ first-places-at ns [] i
 first-places-at (n ∷ ns) (x ∷ list) (suc i) = first-places-at ns list i
 
--- The same of a table's numbers, at every place.
+-- The same of tabulated numbers, at every place.
 pub first-places :
     (n : ℕ) (f : ℕ → ℕ) (l : List ℕ)
     → _≡_ {A = ℕ → ℕ} (λ i. getD (inFirstPlaces (tabulate n f) l) i 0) (λ i. cond (ltb i n) (f i) (getD l i 0))
@@ -91,9 +91,9 @@ first-places n f l =
     fun-ext
     (λ i.
     first-places-at (tabulate n f) l i
-    ∙ by-test (ltb i n) (λ t. rw t (getD-table n f (getD l i 0) i (ltb-true i n t)))
+    ∙ by-test (ltb i n) (λ t. rw t (getD-tabulate n f (getD l i 0) i (ltb-true i n t)))
     (λ t. let past = ltb-false i n t in
-    rw t (List·getD-eq-default (tabulate n f) (getD l i 0) (omega (arith, length-table n f)))))
+    rw t (List·getD-eq-default (tabulate n f) (getD l i 0) (omega (arith, length-tabulate n f)))))
 
 module _ {ℓ} {A : Type ℓ} (l : List A) (at : ℕ) (part : List A) (n : ℕ) (d : A) where
   -- A list with a part of n elements copied into it at a place, read inside that part.

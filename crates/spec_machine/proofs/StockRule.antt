@@ -18,7 +18,7 @@ use Rattle.spec_format.specs.Sound.{Sound}
 use Rattle.spec_machine.specs.declared.Working.{Working}
 use Rattle.spec_machine.specs.Machine.{Machine}
 use Rattle.spec_machine.specs.History.{Run}
-use Rattle.spec_machine.specs.Demand3.{isOpen}
+use Rattle.spec_machine.specs.Demand3.{isDecidedUncommitted}
 use Rattle.spec_machine.specs.StockRule.{blockNumbers, bankNumber, copyNumber, StockRule}
 use Rattle.spec_machine.proofs.View.{decided, stateIn}
 use Rattle.spec_machine.proofs.Sizes.{Sized, Roomy}
@@ -101,7 +101,7 @@ pub stock-when-none-open :
     → EpochsHold (layout plan) (stateIn plan (r .machine))
     → ContentsHold plan (stateIn plan (r .machine)) g
     → Told plan es (r .history) (stateIn plan (r .machine)) g H
-    → ((c : ℕ) → isOpen (r .history) c ≡ false)
+    → ((c : ℕ) → isDecidedUncommitted (r .history) c ≡ false)
     → StockRule plan (r .machine)
 stock-when-none-open plan ok es r sized g H cards epochs contents told none =
     stock-when-calm plan ok (r .machine) sized g contents (none-decided told cards epochs none)

@@ -20,7 +20,7 @@ use Rattle.spec_format.specs.declared.Entry.{Entry}
 use Rattle.spec_format.specs.Plan.{Plan, any}
 use Rattle.spec_machine.specs.Selected.{select, beforeFirst, afterFirst}
 use Rattle.spec_machine.specs.History.{Event, announces, decides, stores, commits, isCommit, returns}
-use Rattle.spec_machine.specs.Demand3.{isOpen, isStored, cardOf, passing}
+use Rattle.spec_machine.specs.Demand3.{isDecidedUncommitted, isStored, cardOf, passing}
 use Rattle.spec_machine.proofs.Events.{
   any-last,
   any-out,
@@ -58,7 +58,8 @@ pub record Quiet (e : Event) (c : ℕ) : Type 0 where
 -- The history h and one more event e, and call c.
 module _ (h : List Event) (e : Event) (c : ℕ) where
   -- An event that neither decides nor commits the call leaves it decided and uncommitted, or not.
-  open-same : decides c e ≡ false → commits c e ≡ false → isOpen (h ++ (e ∷ [])) c ≡ isOpen h c
+  open-same : decides c e ≡ false → commits c e ≡ false
+      → isDecidedUncommitted (h ++ (e ∷ [])) c ≡ isDecidedUncommitted h c
   open-same d m = rw (any-out (decides c) h e d, any-out (commits c) h e m)
 
   -- Where no event spoke of the call, and this one does not, none does.

@@ -24,7 +24,7 @@ use Rattle.spec_machine.specs.Selected.{select, beforeFirst, afterFirst}
 use Rattle.spec_machine.specs.Memory.{jobOf, updateOf}
 use Rattle.spec_machine.specs.Places.{isActive}
 use Rattle.spec_machine.specs.History.{Event, announces, decides, commits, returns, commitsIn, latest}
-use Rattle.spec_machine.specs.Demand3.{isOpen, isStored, cardOf, passing, memoryAfter}
+use Rattle.spec_machine.specs.Demand3.{isDecidedUncommitted, isStored, cardOf, passing, memoryAfter}
 use Rattle.spec_machine.proofs.View.{Status, undecided, decided, finished, State}
 use Rattle.spec_machine.proofs.Words.{blocksOf}
 use Rattle.spec_machine.proofs.Growing.{Within}
@@ -109,7 +109,7 @@ pub record Telling
     : Type 0 where
   pub not-returned : any (returns c) h ≡ false
   pub announced-is : any (announces c) h ≡ a
-  pub open-is : isOpen h c ≡ d
+  pub open-is : isDecidedUncommitted h c ≡ d
   pub commits-are : length (select (commits c) h) ≡ n
   pub passing-are : a ≡ true → (r : ℕ) → r ≢ own → length (passing plan es h c r) ≡ length (l r)
 
@@ -124,7 +124,7 @@ module _ (plan : Plan) (es : List Entry) (h : List Event) where
   pub record Closed (c : ℕ) : Type 0 where
     pub once : length (select (commits c) h) ≤ 1
     pub returned : any (returns c) h ≡ true → length (select (commits c) h) ≡ 1
-    pub shut : isOpen h c ≡ false
+    pub shut : isDecidedUncommitted h c ≡ false
     -- if it was announced, it has committed since
     pub sealed : any (announces c) h ≡ true → any (commits c) (afterFirst (announces c) h) ≡ true
     pub passed : (r : ℕ) → r ≢ cardOf plan es c → length (passing plan es h c r) ≤ 1

@@ -61,7 +61,7 @@ use Rattle.spec_machine.specs.History.{
   callEvent,
   itemEvent,
 }
-use Rattle.spec_machine.specs.Demand3.{isOpen, isStored, cardOf, passing, memoryAfter}
+use Rattle.spec_machine.specs.Demand3.{isDecidedUncommitted, isStored, cardOf, passing, memoryAfter}
 use Rattle.spec_machine.proofs.ChangedAt.{upd, upd-same, upd-other, upd-at, upd-elim, upd-map}
 use Rattle.spec_machine.proofs.View.{
   Status,
@@ -1013,7 +1013,7 @@ module _
           (q x : ℕ) → s .sh .stat q ≡ decided x → (b : ℕ)
           → isStored (behind Place.H41 o) (latest q h) b ≡ upd (g .done) (job p .addr) true b
       stored q x d b =
-          let begun : isOpen h (latest q h) ≡ true =
+          let begun : isDecidedUncommitted h (latest q h) ≡ true =
           T .current q (C .whole .announced-active q (decided-low q x d)) .open-is ∙ ap isDecided d in
           stored-more h (event Place.H41 o) (latest q h) b (and-l _ _ begun)
           ∙ rw (T .stored-are q x d b)

@@ -28,7 +28,7 @@ use Rattle.spec_text.proofs.Cases.{by-test, neither}
 use Rattle.spec_format.specs.declared.Move.{Move}
 use Rattle.spec_format.specs.Plan.{Plan, isIn, including, named, blocksWritten, blocksWrittenAfter, tabulate}
 use Rattle.spec_format.specs.Faults.{someFrom}
-use Rattle.spec_format.proofs.Tabulated.{table-same}
+use Rattle.spec_format.proofs.Tabulated.{tabulate-same}
 use Rattle.spec_format.specs.Sound.{Sound}
 use Rattle.spec_machine.specs.declared.Stage.{Stage}
 use Rattle.spec_machine.specs.Moves.{read, write}
@@ -341,5 +341,5 @@ pub content-of :
     → tabulate (plan .sizes .words) f ≡ blockIn (plan .sizes .words) words b
 unfolding blocksOf
 content-of plan words b h f e =
-    table-same (plan .sizes .words) f (λ i. getD words (b * plan .sizes .words + i) 0)
+    tabulate-same (plan .sizes .words) f (λ i. getD words (b * plan .sizes .words + i) 0)
     (λ i l. e i l ∙ rw (lt-ltb b (plan .sizes .blocks) h, lt-ltb i (plan .sizes .words) l))

@@ -26,8 +26,8 @@ use Rattle.spec_machine.specs.History.{
 }
 
 -- "A call's update is decided and uncommitted from that H25 until the H42 that commits the call."
-abbrev pub isOpen : List Event → ℕ → Bool
-isOpen h c = any (decides c) h && not (any (commits c) h)
+abbrev pub isDecidedUncommitted : List Event → ℕ → Bool
+isDecidedUncommitted h c = any (decides c) h && not (any (commits c) h)
 
 -- H41 has stored block b since the deciding of call c.
 abbrev pub isStored : List Event → ℕ → ℕ → Bool
@@ -57,25 +57,29 @@ pub record Holds (plan : Plan) (es : List Entry) (r : Run) : Type 0 where
   -- "and exactly once if it has returned;"
   pub returned : (c : ℕ) → any (returns c) (r .history) ≡ true → length (select (commits c) (r .history)) ≡ 1
   -- "at most one call's update is decided and uncommitted;"
-  pub single : (c d : ℕ) → isOpen (r .history) c ≡ true → isOpen (r .history) d ≡ true → c ≡ d
+  pub single :
+      (c d : ℕ) →
+      isDecidedUncommitted (r .history) c ≡ true →
+      isDecidedUncommitted (r .history) d ≡ true →
+      c ≡ d
   -- "each block seen through the bank equals its content in document 01's one-after-another memory after the commits so
   -- far," where no update is decided and uncommitted,
   pub settled :
-      ((c : ℕ) → isOpen (r .history) c ≡ false) →
+      ((c : ℕ) → isDecidedUncommitted (r .history) c ≡ false) →
       (b : ℕ) →
       b < plan .sizes .blocks →
       seen plan (r .machine) b ≡ blockIn (plan .sizes .words) (memoryAfter plan es (r .history)) b
   -- and where one is and H41 has not stored that block since the deciding;
   pub kept :
       (c b : ℕ) →
-      isOpen (r .history) c ≡ true →
+      isDecidedUncommitted (r .history) c ≡ true →
       b < plan .sizes .blocks →
       isStored (r .history) c b ≡ false →
       seen plan (r .machine) b ≡ blockIn (plan .sizes .words) (memoryAfter plan es (r .history)) b
   -- "with the decided update run too exactly when H41 has stored that block since the deciding;"
   pub stored :
       (c b : ℕ) →
-      isOpen (r .history) c ≡ true →
+      isDecidedUncommitted (r .history) c ≡ true →
       b < plan .sizes .blocks →
       isStored (r .history) c b ≡ true →
       seen plan (r .machine) b

@@ -59,7 +59,7 @@ StageOf Stage.Write (read a) = ⊥
 StageOf Stage.Write (write d) = Unit {0}
 
 -- A job inside a move: the move and the read or write are there, and the stage fits.
-pub record InsideMove (plan : Plan) (st : Stage) (w : Working) : Type 0 where
+pub record MoveInside (plan : Plan) (st : Stage) (w : Working) : Type 0 where
   pub in-moves : w .index < length (moves plan w)
   pub in-move : w .access < length (accesses (move plan w))
   pub stage-of : StageOf st (access plan w)
@@ -87,7 +87,7 @@ AtPlace plan w Place.A15 = Unit {0}
 AtPlace plan w Place.H16 = Unit {0}
 AtPlace plan w Place.H17 = Unit {0}
 AtPlace plan w Place.H21 = w .hid < plan .sizes .jobs
-AtPlace plan w (Place.Move st) = (w .hid < plan .sizes .jobs) × (InsideMove plan st w × RoomFor plan st w)
+AtPlace plan w (Place.Move st) = (w .hid < plan .sizes .jobs) × (MoveInside plan st w × RoomFor plan st w)
 AtPlace plan w Place.H22 = w .hid < plan .sizes .jobs
 AtPlace plan w Place.H25 = w .hid < plan .sizes .jobs
 AtPlace plan w Place.H32 = w .hid < plan .sizes .jobs

@@ -1,6 +1,6 @@
--- The machine's numbers in their ranges, as far as an entry keeps them by itself: the part of specs/Ranges.antt that
--- BoundedKept.antt shows to be kept. The opening has it, an accepted call keeps it, and so does a store of what is in
--- range.
+-- The machine's numbers in their ranges, as far as an entry keeps them by itself: the part of spec_machine's
+-- Ranges.antt that BoundedKept.antt shows to be kept. The opening has it, an accepted call keeps it, and so does a
+-- store of what is in range.
 --
 -- In plain words. A number that is stored was read from a cell, a row or a record, and is in its range there, or it is
 -- a job's number, N, −1, a block's address, or one more than a count that was in its range before. So whatever is read
@@ -42,7 +42,7 @@ use Rattle.spec_ranges.proofs.Every.{
   Below,
   RowsBelow,
   every-set,
-  every-table,
+  every-tabulate,
   every-replicate,
   below-first,
   row-set,
@@ -230,7 +230,7 @@ module _ (plan : Plan) (n : ℕ) where
         (B .rows .old)
         (row-set mostNumbers (m .newlist) p _ (B .rows .new)
         (below-first mostNumbers (newNumbers m p w) (getD (m .newlist) p [])
-        (every-table (λ x. x < mostNumbers) 0 (omega arith) (w .numblks) _ (λ i _. I .curr _))
+        (every-tabulate (λ x. x < mostNumbers) 0 (omega arith) (w .numblks) _ (λ i _. I .curr _))
         (B .rows .new p)))
     stored-bounded p w I (Store.Bank b x) h =
         with-cells _
@@ -278,24 +278,24 @@ module _ (plan : Plan) (ok : Sound plan) where
                   (le-refl (plan .sizes .jobs));
               trans = λ k some. every-replicate (λ x. x < length (plan .updates)) 0 some 16 0 some k;
               bank =
-                  every-table (λ x. x < mostNumbers) 0 (omega arith) 16 (λ k. copyBlocks plan + k)
+                  every-tabulate (λ x. x < mostNumbers) 0 (omega arith) 16 (λ k. copyBlocks plan + k)
                   (λ k l.
                   let z : copyBlocks plan ≤ 16 * 8 = mul-le-mul (ok .jobs) (ok .copies) in omega arith);
               numblks = every-replicate (λ x. x ≤ 16) 0 (omega arith) 16 0 (omega arith);
             };
         rows = record { addr = empty 16 (omega arith); old = empty _ (omega arith); new = empty _ (omega arith) };
         works =
-            every-table (WorkBounded plan 0) noWork
+            every-tabulate (WorkBounded plan 0) noWork
             (unused-bounded plan 0 [] [] [] (λ i. omega arith) (λ i. omega arith))
             16
             opens
             (λ k l.
             unused-bounded plan 0 (replicate 16 0) (replicate 16 0) (tabulate 8 (λ i. k * plan .sizes .copies + i))
             (every-replicate (λ x. x < mostNumbers) 0 (omega arith) 16 0 (omega arith))
-            (every-table (λ x. x < mostNumbers) 0 (omega arith) 8 _ (λ i. copy-number k i l)));
+            (every-tabulate (λ x. x < mostNumbers) 0 (omega arith) 8 _ (λ i. copy-number k i l)));
         others =
             λ k _.
-            every-table (λ (w : Working). isActive (w .place) ≡ false) noWork refl 16 opens (λ _ _. refl) k;
+            every-tabulate (λ (w : Working). isActive (w .place) ≡ false) noWork refl 16 opens (λ _ _. refl) k;
       }
     where
       -- the rows are zeros

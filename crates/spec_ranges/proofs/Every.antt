@@ -47,10 +47,10 @@ module _ {A : Type 0} (P : A → Type 0) (d : A) where
     every-one a h (suc i) = x
 
     -- It holds of a table where it holds of what stands there.
-    pub every-table : (n : ℕ) (f : ℕ → A) → ((i : ℕ) → i < n → P (f i)) → Every P d (tabulate n f)
-    every-table zero f h = λ i. x
-    every-table (suc n) f h =
-        every-append (tabulate n f) (f n ∷ []) (every-table n f (λ i l. h i (omega arith)))
+    pub every-tabulate : (n : ℕ) (f : ℕ → A) → ((i : ℕ) → i < n → P (f i)) → Every P d (tabulate n f)
+    every-tabulate zero f h = λ i. x
+    every-tabulate (suc n) f h =
+        every-append (tabulate n f) (f n ∷ []) (every-tabulate n f (λ i l. h i (omega arith)))
         (every-one (f n) (h n (omega arith)))
 
     -- It holds of a list of one element only where it holds of that.

@@ -1,4 +1,4 @@
--- Every run stays in the ranges of specs/Ranges.antt, and what H42 commits is a call that the entries name.
+-- Every run stays in the ranges of spec_machine's Ranges.antt, and what H42 commits is a call that the entries name.
 --
 -- In plain words. The numbers stay in their ranges by themselves (BoundedKept.antt), but for three things, which the
 -- layers of the invariant say of every run. Stat[N] is N (first layer). A job inside a move, also one that has been
@@ -26,7 +26,7 @@ use borrow.Author.Tests.{ne-eqb}
 use Rattle.spec_format.specs.declared.Entry.{Entry}
 use Rattle.spec_format.specs.Plan.{Plan, tabulate}
 use Rattle.spec_format.specs.Sound.{Sound}
-use Rattle.spec_format.proofs.Tabulated.{length-table}
+use Rattle.spec_format.proofs.Tabulated.{length-tabulate}
 use Rattle.spec_machine.specs.declared.Stage.{Stage}
 use Rattle.spec_machine.specs.declared.Place.{Place}
 use Rattle.spec_machine.specs.declared.Version.{Version}
@@ -42,7 +42,7 @@ use Rattle.spec_machine.specs.Steps.{item, mayDecide, mayCommit, replaced}
 use Rattle.spec_machine.specs.Machine.{Machine, inRow, sharedIn, workOf, itemOf}
 use Rattle.spec_machine.specs.Entries.{judge, acted}
 use Rattle.spec_machine.specs.History.{latest, Run, unlessRefused, begun, judged, entered, runOf}
-use Rattle.spec_machine.specs.Ranges.{StatusIn, InsideMove, RoomFor, AtPlace, Ranges}
+use Rattle.spec_machine.specs.Ranges.{StatusIn, MoveInside, RoomFor, AtPlace, Ranges}
 use Rattle.spec_machine.proofs.View.{isUndecided, State, stateIn, finished-is, undecided-is}
 use Rattle.spec_machine.proofs.ListMachine.{job-seen, call-judged, step-judged}
 use Rattle.spec_machine.proofs.Tests.{shut-test, test, and-l, and-r, same-version}
@@ -66,7 +66,7 @@ status-wider n m l (negsuc a) h = h
 -- What a place says by itself, and what the layers say of a job inside a move, is what its place says.
 at-place :
     (plan : Plan) (w : Working) (pl : Place) → Standing plan w pl
-    → ((st : Stage) → pl ≡ Place.Move st → InsideMove plan st w × RoomFor plan st w) → AtPlace plan w pl
+    → ((st : Stage) → pl ≡ Place.Move st → MoveInside plan st w × RoomFor plan st w) → AtPlace plan w pl
 at-place plan w Place.Idle h f = tt
 at-place plan w Place.A1 h f = tt
 at-place plan w Place.A2 h f = tt
@@ -102,14 +102,14 @@ module _ (plan : Plan) (ok : Sound plan) (addr : ℕ → ℕ) (w : Working) wher
 
   -- There is room for what a stage adds.
   room :
-      (st : Stage) → InsideMove plan st w → Own (layout plan) (copyOf w) (attempt (ahead plan st w) addr w)
+      (st : Stage) → MoveInside plan st w → Own (layout plan) (copyOf w) (attempt (ahead plan st w) addr w)
       → RoomFor plan st w
   room Stage.Check i o = tt
   room Stage.List i o =
       λ e.
       let l : length (tabulate (w .numblks) addr) < plan .sizes .blocks =
       fewer-listed (layout plan) o (block plan w) (block-in o) (rw e) in
-      let q : length (tabulate (w .numblks) addr) ≡ w .numblks = length-table (w .numblks) addr in
+      let q : length (tabulate (w .numblks) addr) ≡ w .numblks = length-tabulate (w .numblks) addr in
       let m = ok .blocks in
       omega arith
   room Stage.Copy i o =
@@ -156,11 +156,11 @@ module _ (plan : Plan) (ok : Sound plan) where
       -- What that is where it is inside a move.
       moving :
           (st : Stage) → w .place ≡ Place.Move st
-          → InsideMove plan st w × Own (layout plan) (copyOf w) (attempt (ahead plan st w) (s .sh .addrlist p) w)
+          → MoveInside plan st w × Own (layout plan) (copyOf w) (attempt (ahead plan st w) (s .sh .addrlist p) w)
       moving st e = rw e at (contents .own)
 
       -- A job inside a move is at a read or write that is there, and has room.
-      has-room : (st : Stage) → w .place ≡ Place.Move st → InsideMove plan st w × RoomFor plan st w
+      has-room : (st : Stage) → w .place ≡ Place.Move st → MoveInside plan st w × RoomFor plan st w
       has-room st e =
           let o = moving st e in (o .0, room plan ok (s .sh .addrlist p) w st (o .0) (o .1))
 

@@ -26,7 +26,7 @@ use Rattle.spec_format.specs.Plan.{Plan, Listed}
 use Rattle.spec_format.specs.Faults.{mostEntries}
 use Rattle.spec_format.specs.Reading.{Reading, refusal, accepted, reading}
 use Rattle.spec_format.specs.Sound.{Sound}
-use Rattle.spec_format.proofs.Tabulated.{length-table}
+use Rattle.spec_format.proofs.Tabulated.{length-tabulate}
 use Rattle.spec_format.proofs.Sound.{accepted-sound, accepted-few}
 use Rattle.spec_format.proofs.LineCounts.{low-count, low-lines, low-refused}
 use Rattle.spec_machine.specs.Memory.{Commit, jobOf, updateOf}
@@ -80,7 +80,7 @@ module _ (plan : Plan) (ok : Sound plan) where
 
   -- A block has its words.
   seen-words : (m : Machine) (b : ℕ) → length (seen plan m b) ≡ plan .sizes .words
-  seen-words m b = length-table (plan .sizes .words) _
+  seen-words m b = length-tabulate (plan .sizes .words) _
 
   -- The block lines.
   blocks-short : (m : Machine) → length (blockLines plan m) ≤ longestBlocks

@@ -124,12 +124,12 @@ pub fn onward(plan: &[u32; PLAN_PLACES], m: Move, w: Registers) -> Registers
     let mut next = w;
     if w.access + 1 < accesses(m) {
         next.access = w.access + 1;
-        return step_registers::go_to(next, Place::Move(Stage::Check));
+        return step_shared::go_to(next, Place::Move(Stage::Check));
     }
     next.index = w.index + 1;
     next.access = 0;
     if (w.index as u32) + 1 < read_tables::count(plan, w.tr as usize) {
-        return step_registers::go_to(next, Place::Move(Stage::Check));
+        return step_shared::go_to(next, Place::Move(Stage::Check));
     }
-    step_registers::go_to(next, Place::H22)
+    step_shared::go_to(next, Place::H22)
 }

@@ -25,7 +25,7 @@ pub fn a1(w: Registers) -> Effect
     ensures { λ r. ⌜ ((t : List ℕ) (x : Tables) (p : ℕ) → Does Place.A1 t x p w r) ⌝ }
     ensures { λ r. ⌜ StaysInside r ⌝ }
 {
-    step_registers::storing(Change::Trans, step_registers::go_to(w, Place::A2))
+    step_shared::storing(Change::Trans, step_shared::go_to(w, Place::A2))
 }
 
 // A2: Stat[p] becomes −1, round 0.
@@ -35,7 +35,7 @@ pub fn a2(w: Registers) -> Effect
 {
     let mut next = w;
     next.round = 0;
-    step_registers::storing(Change::Pending, step_registers::go_to(next, Place::A4))
+    step_shared::storing(Change::Pending, step_shared::go_to(next, Place::A4))
 }
 
 // A4: lid := Ann[R]; if N go to A14, else A7.
@@ -48,9 +48,9 @@ pub fn a4(plan: &[u32; PLAN_PLACES], cells: &[u32; CELL_PLACES], p: usize, w: Re
     let mut next = w;
     next.lid = lid as u8;
     if lid == read_tables::jobs(plan) {
-        return step_registers::quiet(step_registers::go_to(next, Place::A14));
+        return step_shared::quiet(step_shared::go_to(next, Place::A14));
     }
-    step_registers::quiet(step_registers::go_to(next, Place::A7))
+    step_shared::quiet(step_shared::go_to(next, Place::A7))
 }
 
 // Whether ver points elsewhere or its flag is false.
@@ -81,15 +81,15 @@ pub fn a7(
     let v = step_cells::version(cells);
     let mut next = w;
     next.ver = v;
-    if step_registers::is_finished(plan, stat, w.lid) {
+    if step_shared::is_finished(plan, stat, w.lid) {
         if is_elsewhere(read_tables::cards(plan), v, read_tables::card(plan, p)) {
-            return step_registers::quiet(step_registers::go_to(next, Place::A14));
+            return step_shared::quiet(step_shared::go_to(next, Place::A14));
         }
     }
     if v.flag {
-        return step_registers::quiet(step_registers::go_to(next, Place::H16));
+        return step_shared::quiet(step_shared::go_to(next, Place::H16));
     }
-    step_registers::quiet(step_registers::go_to(next, Place::A10))
+    step_shared::quiet(step_shared::go_to(next, Place::A10))
 }
 
 // Neither k nor Stat[k] is N.
@@ -101,7 +101,7 @@ fn is_pending(plan: &[u32; PLAN_PLACES], stat: &[i32; 17], k: u8) -> bool
     if k as u32 == read_tables::jobs(plan) {
         return false;
     }
-    !step_registers::is_finished(plan, stat, k)
+    !step_shared::is_finished(plan, stat, k)
 }
 
 // A10 (10 and 11 together): hid := Ann[(count + 1) mod P]; new flag true exactly if hid and Stat[hid] are not N.
@@ -122,7 +122,7 @@ pub fn a10(
     let mut next = w;
     next.hid = hid;
     next.next = is_pending(plan, stat, hid);
-    step_registers::quiet(step_registers::go_to(next, Place::A12))
+    step_shared::quiet(step_shared::go_to(next, Place::A12))
 }
 
 // A12: if V = ver, V becomes (count + 1, new flag). To A7.
@@ -133,13 +133,13 @@ pub fn a12(cells: &[u32; CELL_PLACES], w: Registers) -> Effect
     ensures { λ r. ⌜ StaysInside r ⌝ }
 {
     let ver = w.ver;
-    if step_registers::same_version(cells, w) {
-        return step_registers::storing(
+    if step_shared::same_version(cells, w) {
+        return step_shared::storing(
             Change::Version(ver.count + 1, w.next),
-            step_registers::go_to(w, Place::A7),
+            step_shared::go_to(w, Place::A7),
         );
     }
-    step_registers::quiet(step_registers::go_to(w, Place::A7))
+    step_shared::quiet(step_shared::go_to(w, Place::A7))
 }
 
 // A14: Ann[R] := p. Round 0: round 1, to A4. Round 1: to A15.
@@ -152,9 +152,9 @@ pub fn a14(plan: &[u32; PLAN_PLACES], p: usize, w: Registers) -> Effect
     if w.round == 0 {
         let mut next = w;
         next.round = 1;
-        return step_registers::storing(announced, step_registers::go_to(next, Place::A4));
+        return step_shared::storing(announced, step_shared::go_to(next, Place::A4));
     }
-    step_registers::storing(announced, step_registers::go_to(w, Place::A15))
+    step_shared::storing(announced, step_shared::go_to(w, Place::A15))
 }
 
 // A15: Ann[R] := N, job no longer active (its return).
@@ -163,8 +163,8 @@ pub fn a15(plan: &[u32; PLAN_PLACES], p: usize, w: Registers) -> Effect
     ensures { λ r. ⌜ ((x : Tables) → Does Place.A15 (now (plan .entry)) x p w r) ⌝ }
     ensures { λ r. ⌜ StaysInside r ⌝ }
 {
-    step_registers::storing(
+    step_shared::storing(
         Change::Returned(read_tables::card(plan, p)),
-        step_registers::go_to(w, Place::Idle),
+        step_shared::go_to(w, Place::Idle),
     )
 }

@@ -6,7 +6,7 @@ use mathlib.Core.List.{List}
 use native.Mathlib.Omega.{arith}
 use lib.ListN.{length, getD, set}
 use lib.Seq.{getD-set-same}
-use Rattle.spec_format.proofs.Tabulated.{table-same}
+use Rattle.spec_format.proofs.Tabulated.{tabulate-same}
 use Rattle.read_tables.specs.PlanTable.{sizesIn, jobAt}
 use Rattle.step_cells.specs.declared.Registers.{Registers}
 use Rattle.step_cells.specs.CellTable.{places, Only, cellPlaces, entriesAt, committedAt, haltAt, otherAt}
@@ -47,7 +47,7 @@ pub works-free : {lo hi : ℕ} {t u : List ℕ} → Only lo hi t u → hi ≤ 12
     → worksOf u ws ≡ worksOf t ws
 unfolding worksOf
 works-free o h ws =
-    table-same 16 _ _
+    tabulate-same 16 _ _
     (λ k l. ap (λ z. workWith z (getD ws k idle)) (own-out o k (inr (omega arith))))
 
 -- Places that no part of the machine has.

@@ -8,36 +8,36 @@ use native.Mathlib.Omega.{arith}
 use lib.ListN.{length, getD, set, replicate, length-set, length-replicate, getD-replicate}
 use lib.Seq.{getD-set-same, getD-set-other, ext-getD}
 use Rattle.spec_format.specs.Plan.{tabulate}
-use Rattle.spec_format.proofs.Tabulated.{length-table, getD-table, table-same}
+use Rattle.spec_format.proofs.Tabulated.{length-tabulate, getD-tabulate, tabulate-same}
 use Rattle.step_cells.specs.CellTable.{places, Only}
 
 -- One element of a table stored.
-pub table-set :
+pub tabulate-set :
     {A : Type 0} (n : ℕ) (f g : ℕ → A) (d : A) (p : ℕ) → ((q : ℕ) → q < n → q ≢ p → g q ≡ f q) → p < n
     → tabulate n g ≡ set (tabulate n f) p (g p)
-table-set n f g d p h l =
+tabulate-set n f g d p h l =
     ext-getD d (tabulate n g) (set (tabulate n f) p (g p))
-    (length-table n g ∙ sym (length-set (tabulate n f) p (g p) ∙ length-table n f))
-    (λ i m. at i (rw (length-table n g) at m) (ℕ-discrete i p))
+    (length-tabulate n g ∙ sym (length-set (tabulate n f) p (g p) ∙ length-tabulate n f))
+    (λ i m. at i (rw (length-tabulate n g) at m) (ℕ-discrete i p))
   where
     at : (i : ℕ) → i < n → Dec (i ≡ p) → getD (tabulate n g) i d ≡ getD (set (tabulate n f) p (g p)) i d
     at i m (yes e) =
-        getD-table n g d i m ∙ ap g e
+        getD-tabulate n g d i m ∙ ap g e
         ∙ sym (ap (λ k. getD (set (tabulate n f) p (g p)) k d) e
-        ∙ getD-set-same (tabulate n f) p (g p) d (rw (length-table n f) l))
+        ∙ getD-set-same (tabulate n f) p (g p) d (rw (length-tabulate n f) l))
     at i m (no c) =
-        getD-table n g d i m ∙ h i m c
-        ∙ sym (getD-set-other (tabulate n f) p i (g p) d c ∙ getD-table n f d i m)
+        getD-tabulate n g d i m ∙ h i m c
+        ∙ sym (getD-set-other (tabulate n f) p i (g p) d c ∙ getD-tabulate n f d i m)
 
 -- A place of a part.
 pub places-at : (t : List ℕ) (at n i d : ℕ) → i < n → getD (places t at n) i d ≡ getD t (at + i) 0
 unfolding places
-places-at t at n i d h = getD-table n (λ i. getD t (at + i) 0) d i h
+places-at t at n i d h = getD-tabulate n (λ i. getD t (at + i) 0) d i h
 
 -- A part has its length.
 pub places-length : (t : List ℕ) (at n : ℕ) → length (places t at n) ≡ n
 unfolding places
-places-length t at n = length-table n (λ i. getD t (at + i) 0)
+places-length t at n = length-tabulate n (λ i. getD t (at + i) 0)
 
 -- Places that are all one number.
 pub places-all :
@@ -79,7 +79,7 @@ pub places-out :
     {lo hi : ℕ} {t u : List ℕ} → Only lo hi t u → (at n : ℕ) → (at + n ≤ lo) ⊎ (hi ≤ at) → places u at n ≡ places t at n
 unfolding places
 places-out {lo} {hi} {t} {u} o at n apart =
-    table-same n (λ i. getD u (at + i) 0) (λ i. getD t (at + i) 0) (λ i l. o .kept (at + i) (there i l apart))
+    tabulate-same n (λ i. getD u (at + i) 0) (λ i. getD t (at + i) 0) (λ i l. o .kept (at + i) (there i l apart))
   where
     there : (i : ℕ) → i < n → (at + n ≤ lo) ⊎ (hi ≤ at) → (at + i < lo) ⊎ (hi ≤ at + i)
     there i l (inl h) = inl (omega arith)
@@ -90,6 +90,6 @@ pub places-in :
     (t : List ℕ) (at n i x : ℕ) → i < n → at + i < length t → places (set t (at + i) x) at n ≡ set (places t at n) i x
 unfolding places
 places-in t at n i x h l =
-    table-set n (λ k. getD t (at + k) 0) (λ k. getD (set t (at + i) x) (at + k) 0) 0 i
+    tabulate-set n (λ k. getD t (at + k) 0) (λ k. getD (set t (at + i) x) (at + k) 0) 0 i
     (λ q m c. getD-set-other t (at + i) (at + q) x 0 (λ e. c (omega arith))) h
     ∙ ap (set (tabulate n (λ k. getD t (at + k) 0)) i) (getD-set-same t (at + i) x 0 l)

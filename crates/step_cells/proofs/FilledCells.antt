@@ -8,7 +8,7 @@ use native.Mathlib.Omega.{arith}
 use lib.ListN.{getD, set}
 use lib.Seq.{getD-set-same, getD-set-other}
 use Rattle.spec_format.specs.Plan.{tabulate}
-use Rattle.spec_format.proofs.Tabulated.{table-same, table-more}
+use Rattle.spec_format.proofs.Tabulated.{tabulate-same, tabulate-more}
 use Rattle.step_cells.specs.CellTable.{places, Only, Filled, cellPlaces}
 use Rattle.step_cells.proofs.CellPlaces.{only-set, only-then}
 
@@ -28,7 +28,7 @@ fill-more start i f t u l h =
       only = only-then wider (only-set start (start + (i + 1)) (start + i) (f i) u (omega arith) (omega arith));
       filled = λ long.
           let before : tabulate i (λ k. getD u (start + k) 0) ≡ tabulate i f = h .filled long in
-          table-more i (λ k. getD u (start + k) 0) (λ k. getD (set u (start + i) (f i)) (start + k) 0) (f i)
+          tabulate-more i (λ k. getD u (start + k) 0) (λ k. getD (set u (start + i) (f i)) (start + k) 0) (f i)
           (λ k m. sym (getD-set-other u (start + i) (start + k) (f i) 0 (λ e. absurd (omega (arith, e)))))
           (getD-set-same u (start + i) (f i) 0 (omega (arith, h .only .long, long)))
           ∙ rw (add-one, before);
@@ -46,4 +46,4 @@ pub fill-same :
     (start n : ℕ) (f g : ℕ → ℕ) (t u : List ℕ) → ((i : ℕ) → i < n → f i ≡ g i) → Filled start n f t u
     → Filled start n g t u
 fill-same start n f g t u e h =
-    record { only = h .only; filled = λ long. h .filled long ∙ table-same n f g e }
+    record { only = h .only; filled = λ long. h .filled long ∙ tabulate-same n f g e }

@@ -10,7 +10,7 @@ use lib.IntN.{ℤ}
 use lib.ListN.{length, getD, set}
 use lib.Seq.{getD-set-same, getD-set-other}
 use Rattle.spec_format.specs.Plan.{tabulate}
-use Rattle.spec_format.proofs.Tabulated.{length-table, getD-table}
+use Rattle.spec_format.proofs.Tabulated.{length-tabulate, getD-tabulate}
 use Rattle.spec_machine.specs.Working.{noWork}
 use Rattle.spec_machine.specs.Cells.{withV, withAnn, withTrans, withBank, withNumblks}
 use Rattle.step_cells.specs.declared.Registers.{Registers}
@@ -18,7 +18,7 @@ use Rattle.step_cells.specs.CellTable.{places, Only, annAt, transAt, ban
 use Rattle.step_cells.specs.CellTable.{copyAt, calledUpdateAt, cellPlaces}
 use Rattle.step_cells.specs.Tables.{Own, ownOf, cellsOf, workWith, idle, worksOf}
 use Rattle.step_cells.specs.Effects.{marking, OwnStep}
-use Rattle.step_cells.proofs.CellPlaces.{only-set, only-then, places-out, places-in, table-set}
+use Rattle.step_cells.proofs.CellPlaces.{only-set, only-then, places-out, places-in, tabulate-set}
 
 -- A job's own places, apart from the places that differ.
 pub own-out :
@@ -84,7 +84,7 @@ pub works-step :
     → worksOf u (set ws p w) ≡ set (worksOf t ws) p (workWith (ownOf u p) w)
 unfolding worksOf
 works-step t u ws p w l all h =
-    table-set 16 (λ q. workWith (ownOf t q) (getD ws q idle)) (λ q. workWith (ownOf u q) (getD (set ws p w) q idle))
+    tabulate-set 16 (λ q. workWith (ownOf t q) (getD ws q idle)) (λ q. workWith (ownOf u q) (getD (set ws p w) q idle))
     noWork p
     (λ q m c.
     ap (λ o. workWith o (getD (set ws p w) q idle)) (h q m c)
@@ -133,7 +133,7 @@ pub work-at :
     (t : List ℕ) (ws : List Registers) (p : ℕ) → p < 16
     → getD (worksOf t ws) p noWork ≡ workWith (ownOf t p) (getD ws p idle)
 unfolding worksOf
-work-at t ws p l = getD-table 16 (λ q. workWith (ownOf t q) (getD ws q idle)) noWork p l
+work-at t ws p l = getD-tabulate 16 (λ q. workWith (ownOf t q) (getD ws q idle)) noWork p l
 
 -- Two changes of the job's own places.
 pub own-then :
@@ -147,7 +147,7 @@ own-then p f g t u v a b =
 -- There are sixteen records.
 pub works-length : (t : List ℕ) (ws : List Registers) → length (worksOf t ws) ≡ 16
 unfolding worksOf
-works-length t ws = length-table 16 (λ q. workWith (ownOf t q) (getD ws q idle))
+works-length t ws = length-tabulate 16 (λ q. workWith (ownOf t q) (getD ws q idle))
 
 -- A block marked, and its number stored.
 pub marks :

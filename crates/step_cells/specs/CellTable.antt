@@ -89,7 +89,7 @@ copyAt p = 160 + 64 * p
 abbrev pub calledUpdateAt : ℕ → ℕ
 calledUpdateAt p = 168 + 64 * p
 
--- The n numbers of a table from a place on: layout's `part`, but shut. Laws open it, and nothing else does.
+-- The n numbers of a table from a place on: `part` of read_tables, but shut. Laws open it, and nothing else does.
 unfoldable pub places : List ℕ → ℕ → ℕ → List ℕ
 places t at n = part t at n
 

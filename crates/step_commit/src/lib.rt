@@ -31,13 +31,13 @@ pub fn h32(plan: &[u32; PLAN_PLACES], stat: &[i32; 17], p: usize, w: Registers) 
 {
     let mut next = w;
     next.wid = stat[w.hid as usize];
-    if step_registers::is_undecided(stat, w.hid) {
-        return step_registers::quiet(step_registers::go_to(next, Place::A10));
+    if step_shared::is_undecided(stat, w.hid) {
+        return step_shared::quiet(step_shared::go_to(next, Place::A10));
     }
-    if step_registers::is_finished(plan, stat, w.hid) {
-        return step_registers::quiet(step_registers::go_to(next, Place::A10));
+    if step_shared::is_finished(plan, stat, w.hid) {
+        return step_shared::quiet(step_shared::go_to(next, Place::A10));
     }
-    step_registers::quiet(step_registers::go_to(next, Place::H34))
+    step_shared::quiet(step_shared::go_to(next, Place::H34))
 }
 
 // The job that a status names.
@@ -59,9 +59,9 @@ pub fn h34(cells: &[u32; CELL_PLACES], p: usize, w: Registers) -> Effect
     next.numblks = n as u8;
     next.j = 0;
     if n == 0 {
-        return step_registers::quiet(step_registers::go_to(next, Place::H42));
+        return step_shared::quiet(step_shared::go_to(next, Place::H42));
     }
-    step_registers::quiet(step_registers::go_to(next, Place::H36))
+    step_shared::quiet(step_shared::go_to(next, Place::H36))
 }
 
 // For each listed block: H36, V not ver, to A10.
@@ -70,10 +70,10 @@ pub fn h36(cells: &[u32; CELL_PLACES], w: Registers) -> Effect
         → Does Place.H36 t x p w r) ⌝ }
     ensures { λ r. ⌜ StaysInside r ⌝ }
 {
-    if !step_registers::same_version(cells, w) {
-        return step_registers::quiet(step_registers::go_to(w, Place::A10));
+    if !step_shared::same_version(cells, w) {
+        return step_shared::quiet(step_shared::go_to(w, Place::A10));
     }
-    step_registers::quiet(step_registers::go_to(w, Place::H37))
+    step_shared::quiet(step_shared::go_to(w, Place::H37))
 }
 
 // H37, Stat[hid] = N, to A10.
@@ -82,10 +82,10 @@ pub fn h37(plan: &[u32; PLAN_PLACES], stat: &[i32; 17], p: usize, w: Registers) 
     ensures { λ r. ⌜ ((x : Tables) → x .stat ≡ now (stat .entry) → Does Place.H37 (now (plan .entry)) x p w r) ⌝ }
     ensures { λ r. ⌜ StaysInside r ⌝ }
 {
-    if step_registers::is_finished(plan, stat, w.hid) {
-        return step_registers::quiet(step_registers::go_to(w, Place::A10));
+    if step_shared::is_finished(plan, stat, w.hid) {
+        return step_shared::quiet(step_shared::go_to(w, Place::A10));
     }
-    step_registers::quiet(step_registers::go_to(w, Place::H38))
+    step_shared::quiet(step_shared::go_to(w, Place::H38))
 }
 
 // Line j of a row: its address, old and new number. The row goes by value beside the registers.
@@ -118,7 +118,7 @@ pub fn h38(
 {
     let wid = job_named(w.wid);
     let next = read_row(w, addr[wid], old[wid], new[wid]);
-    step_registers::quiet(step_registers::go_to(next, Place::H41))
+    step_shared::quiet(step_shared::go_to(next, Place::H41))
 }
 
 // The condition of H41: V = ver and the bank entry is old.
@@ -127,7 +127,7 @@ fn may_store(cells: &[u32; CELL_PLACES], w: Registers) -> bool
     ensures { λ r. ⌜ r ≡ (sameVersion (versionIn (now (cells .entry))) (w .ver)
         && eqb (getD (places (now (cells .entry)) bankAt 16) (w .addr) 0) (w .old)) ⌝ }
 {
-    if step_registers::same_version(cells, w) {
+    if step_shared::same_version(cells, w) {
         return step_cells::bank(cells, w.addr as u32) == w.old as u32;
     }
     false
@@ -141,9 +141,9 @@ fn after_store(w: Registers) -> Registers
     let mut next = w;
     next.j = w.j + 1;
     if w.j + 1 < w.numblks {
-        return step_registers::go_to(next, Place::H36);
+        return step_shared::go_to(next, Place::H36);
     }
-    step_registers::go_to(next, Place::H42)
+    step_shared::go_to(next, Place::H42)
 }
 
 // H41, if V = ver and the bank entry is old, it becomes new.
@@ -154,9 +154,9 @@ pub fn h41(cells: &[u32; CELL_PLACES], w: Registers) -> Effect
     ensures { λ r. ⌜ StaysInside r ⌝ }
 {
     if may_store(cells, w) {
-        return step_registers::doing(Change::Bank(w.addr as u32, w.new as u32), after_store(w));
+        return step_shared::doing(Change::Bank(w.addr as u32, w.new as u32), after_store(w));
     }
-    step_registers::quiet(after_store(w))
+    step_shared::quiet(after_store(w))
 }
 
 // Stat[hid] = wid.
@@ -175,7 +175,7 @@ fn may_commit(cells: &[u32; CELL_PLACES], stat: &[i32; 17], w: Registers) -> boo
         ≡ (sameVersion (versionIn (now (cells .entry))) (w .ver)
         && sameStatus (getD (now (stat .entry)) (w .hid) none) (w .wid))) ⌝ }
 {
-    if step_registers::same_version(cells, w) {
+    if step_shared::same_version(cells, w) {
         return is_decided(stat, w);
     }
     false
@@ -189,10 +189,10 @@ pub fn h42(cells: &[u32; CELL_PLACES], stat: &[i32; 17], w: Registers) -> Effect
     ensures { λ r. ⌜ StaysInside r ⌝ }
 {
     if may_commit(cells, stat, w) {
-        return step_registers::doing(
+        return step_shared::doing(
             Change::Commit(w.hid as u32),
-            step_registers::go_to(w, Place::A10),
+            step_shared::go_to(w, Place::A10),
         );
     }
-    step_registers::quiet(step_registers::go_to(w, Place::A10))
+    step_shared::quiet(step_shared::go_to(w, Place::A10))
 }

@@ -28,7 +28,7 @@ pub fn h16(plan: &[u32; PLAN_PLACES], cells: &[u32; CELL_PLACES], p: usize, w: R
     let ver = w.ver;
     let mut next = w;
     next.hid = step_cells::ann(cells, ver.count % read_tables::cards(plan)) as u8;
-    step_registers::quiet(step_registers::go_to(next, Place::H17))
+    step_shared::quiet(step_shared::go_to(next, Place::H17))
 }
 
 // H17: Stat[hid] = N to A10; −1 to H21; else H32.
@@ -37,13 +37,13 @@ pub fn h17(plan: &[u32; PLAN_PLACES], stat: &[i32; 17], p: usize, w: Registers) 
     ensures { λ r. ⌜ ((x : Tables) → x .stat ≡ now (stat .entry) → Does Place.H17 (now (plan .entry)) x p w r) ⌝ }
     ensures { λ r. ⌜ StaysInside r ⌝ }
 {
-    if step_registers::is_finished(plan, stat, w.hid) {
-        return step_registers::quiet(step_registers::go_to(w, Place::A10));
+    if step_shared::is_finished(plan, stat, w.hid) {
+        return step_shared::quiet(step_shared::go_to(w, Place::A10));
     }
-    if step_registers::is_undecided(stat, w.hid) {
-        return step_registers::quiet(step_registers::go_to(w, Place::H21));
+    if step_shared::is_undecided(stat, w.hid) {
+        return step_shared::quiet(step_shared::go_to(w, Place::H21));
     }
-    step_registers::quiet(step_registers::go_to(w, Place::H32))
+    step_shared::quiet(step_shared::go_to(w, Place::H32))
 }
 
 // The first stage of an update's moves, or H22 where it has none.
@@ -71,7 +71,7 @@ pub fn h21(plan: &[u32; PLAN_PLACES], cells: &[u32; CELL_PLACES], w: Registers) 
     next.access = 0;
     next.numblks = 0;
     next.dirtycnt = 0;
-    step_registers::quiet(step_registers::go_to(next, begin(read_tables::count(plan, tr as usize))))
+    step_shared::quiet(step_shared::go_to(next, begin(read_tables::count(plan, tr as usize))))
 }
 
 // H22: publish the new block numbers of all listed blocks and their count.
@@ -80,9 +80,9 @@ pub fn h22(w: Registers) -> Effect
     ensures { λ r. ⌜ ((t : List ℕ) (x : Tables) (p : ℕ) → Does Place.H22 t x p w r) ⌝ }
     ensures { λ r. ⌜ StaysInside r ⌝ }
 {
-    step_registers::storing(
+    step_shared::storing(
         Change::Published(w.numblks as u32),
-        step_registers::go_to(w, Place::H25),
+        step_shared::go_to(w, Place::H25),
     )
 }
 
@@ -96,11 +96,11 @@ pub fn h25(cells: &[u32; CELL_PLACES], stat: &[i32; 17], w: Registers) -> Effect
     ensures { λ r. ⌜ ((x : Tables) (p : ℕ) → x .cells ≡ now (cells .entry) → x .stat ≡ now (stat .entry)
         → Reclaims x p w → Room x p (r .change)) ⌝ }
 {
-    if step_registers::may_decide(cells, stat, w) {
-        return step_registers::doing(
+    if step_shared::may_decide(cells, stat, w) {
+        return step_shared::doing(
             Change::Decided(w.hid as u32, w.numblks as u32),
-            step_registers::go_to(w, Place::H32),
+            step_shared::go_to(w, Place::H32),
         );
     }
-    step_registers::storing(Change::Cleared, step_registers::go_to(w, Place::H32))
+    step_shared::storing(Change::Cleared, step_shared::go_to(w, Place::H32))
 }

@@ -8,7 +8,7 @@ use Rattle.step_cells.specs.declared.Registers.{Registers}
 use Rattle.step_cells.specs.declared.Effect.{Effect}
 use Rattle.step_cells.specs.Tables.{Tables}
 use Rattle.step_cells.specs.Effects.{Does}
-use Rattle.step_registers.specs.Registers.{quiet}
+use Rattle.step_shared.specs.Registers.{quiet}
 use Rattle.step_list.specs.Ready.{ReadyAt, Ready}
 
 -- The item of a place is that of the same place. (`rw` would change the place inside the registers too.)

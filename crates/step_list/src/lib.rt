@@ -34,7 +34,7 @@ pub fn item(
 {
     let place = w.place;
     match place {
-        Place::Idle => step_registers::quiet(w),
+        Place::Idle => step_shared::quiet(w),
         Place::A1 => step_announce::a1(w),
         Place::A2 => step_announce::a2(w),
         Place::A4 => step_announce::a4(plan, cells, p, w),

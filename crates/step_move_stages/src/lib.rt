@@ -22,10 +22,10 @@ fn check(cells: &[u32; CELL_PLACES], stat: &[i32; 17], w: Registers) -> Effect
         → Does (Place.Move Stage.Check) t x p w r) ⌝ }
     ensures { λ r. ⌜ StaysInside r ⌝ }
 {
-    if step_registers::may_decide(cells, stat, w) {
-        return step_registers::quiet(step_registers::go_to(w, Place::Move(Stage::List)));
+    if step_shared::may_decide(cells, stat, w) {
+        return step_shared::quiet(step_shared::go_to(w, Place::Move(Stage::List)));
     }
-    step_registers::storing(Change::Cleared, step_registers::go_to(w, Place::H32))
+    step_shared::storing(Change::Cleared, step_shared::go_to(w, Place::H32))
 }
 
 // List the block with its bank number if not yet listed (else the step changes nothing).
@@ -43,12 +43,12 @@ fn list(plan: &[u32; PLAN_PLACES], cells: &[u32; CELL_PLACES], p: usize, w: Regi
         let number = step_cells::bank(cells, block);
         let mut next = w;
         next.numblks = w.numblks + 1;
-        return step_registers::storing(
+        return step_shared::storing(
             Change::Listed(w.numblks as u32, block, number),
-            step_registers::go_to(next, Place::Move(after)),
+            step_shared::go_to(next, Place::Move(after)),
         );
     }
-    step_registers::quiet(step_registers::go_to(w, Place::Move(after)))
+    step_shared::quiet(step_shared::go_to(w, Place::Move(after)))
 }
 
 // Take the word, from the block's copy once this run has made one.
@@ -72,7 +72,7 @@ fn take(
     let at = (number * words + word % words) as usize;
     let mut next = w;
     next.word = store[at];
-    step_registers::quiet(step_accesses::onward(plan, m, next))
+    step_shared::quiet(step_accesses::onward(plan, m, next))
 }
 
 // On the block's first write copy it into p's next copy block (else nothing).
@@ -86,15 +86,15 @@ fn copy(plan: &[u32; PLAN_PLACES], cells: &[u32; CELL_PLACES], p: usize, w: Regi
     let m = step_accesses::move_for(plan, w);
     let block = step_accesses::word_of(m, w.access) / read_tables::words(plan);
     if step_cells::dirty(cells, p, block) == 2 {
-        return step_registers::quiet(step_registers::go_to(w, Place::Move(Stage::Write)));
+        return step_shared::quiet(step_shared::go_to(w, Place::Move(Stage::Write)));
     }
     let from = step_cells::curr(cells, p, block);
     let to = step_cells::copy(cells, p, w.dirtycnt as u32);
     let mut next = w;
     next.dirtycnt = w.dirtycnt + 1;
-    step_registers::storing(
+    step_shared::storing(
         Change::Block(block, from, to),
-        step_registers::go_to(next, Place::Move(Stage::Write)),
+        step_shared::go_to(next, Place::Move(Stage::Write)),
     )
 }
 
@@ -109,7 +109,7 @@ fn write(plan: &[u32; PLAN_PLACES], cells: &[u32; CELL_PLACES], p: usize, w: Reg
     let word = step_accesses::word_of(m, w.access);
     let words = read_tables::words(plan);
     let number = step_cells::curr(cells, p, word / words);
-    step_registers::storing(
+    step_shared::storing(
         Change::Word(number, word % words, step_accesses::word_written(m, w.word)),
         step_accesses::onward(plan, m, w),
     )

@@ -32,7 +32,7 @@ use Rattle.step_cells.specs.Tables.{Tables, lent}
 use Rattle.step_cells.specs.Book.{bookOf}
 use Rattle.run_judge.specs.Rulings.{haltOf}
 use Rattle.run_loop.specs.RunReached.{placeOf, Ran}
-use Rattle.report_whole.specs.Writing.{Reportable, reportBytes}
+use Rattle.report_writer.specs.Writing.{Reportable, reportBytes}
 use Rattle.report_ending.proofs.ReportOfTables.{reportable-rowless, reportable, end-is, the-outcome}
 use Rattle.whole_records_start.specs.BeforeAndAfter.{Accepts}
 

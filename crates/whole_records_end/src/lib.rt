@@ -8,7 +8,7 @@ ghost use Rattle.step_cells.specs.Tables.{lent};
 ghost use Rattle.whole_records_start.specs.BeforeAndAfter.{Closing};
 use read_tables::PLAN_PLACES;
 use report_ending::Ended;
-use report_ending::Finished;
+use report_ending::WrittenEnd;
 use spec_format::Entry;
 use spec_format::Fault;
 use spec_format::Verdict;
@@ -26,7 +26,7 @@ fn report_of(
     store: &[u32],
     commits: &[[u32; 3]; 4000],
     buffer: &mut [u8],
-) -> Finished
+) -> WrittenEnd
     requires { ⌜ ((text : List ℕ) × (es : List Entry) × (addr : List (List ℕ)) × (old : List (List ℕ))
         × (new : List (List ℕ)) × Closing text es verdict count (now plan)
         (lent (now cells) (now stat) (now store) addr old new (now commits))) ⌝ }
@@ -36,21 +36,21 @@ fn report_of(
         → WrittenOut (runSchedule text es) (now (buffer .entry)) r (now (buffer .exit))) ⌝ }
 {
     if let Verdict::Refused(fault, line) = verdict {
-        return Finished {
+        return WrittenEnd {
             end: End::Faulty(fault, line),
             length: 0,
         };
     }
     if count > MOST {
         let past = MOST + 1;
-        return Finished {
+        return WrittenEnd {
             end: End::Faulty(Fault::TooMany, past),
             length: 0,
         };
     }
     let other = step_cells::other(cells) as usize;
     if other > 0 {
-        return Finished {
+        return WrittenEnd {
             end: End::Faulty(Fault::Misplaced, other),
             length: 0,
         };

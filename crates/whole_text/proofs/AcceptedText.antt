@@ -13,7 +13,7 @@ use Rattle.spec_format.specs.Sound.{Sound}
 use Rattle.spec_format.specs.Reading.{refusal, reading}
 use Rattle.spec_format.proofs.Sound.{accepted-sound, accepted-few}
 use Rattle.spec_format.proofs.LineCounts.{low-count, low-lines}
-use Rattle.spec_format.proofs.Tabulated.{length-table, getD-table}
+use Rattle.spec_format.proofs.Tabulated.{length-tabulate, getD-tabulate}
 use Rattle.read_tables.specs.PlanTable.{planIn}
 use Rattle.read_tables.specs.EntryTable.{listedAt, listedIn}
 use Rattle.spec_machine.specs.History.{runOf}
@@ -28,7 +28,7 @@ use Rattle.run_opening.specs.Opened.{emptyRows, Opened}
 use Rattle.run_loop.specs.RunReached.{Starts, Ran}
 use Rattle.run_loop.proofs.Starting.{opened-starts}
 use Rattle.run_entry_list.specs.EntriesAlone.{entriesIn}
-use Rattle.report_whole.specs.Writing.{Reportable, reportBytes}
+use Rattle.report_writer.specs.Writing.{Reportable, reportBytes}
 use Rattle.report_ending.proofs.ReportOfTables.{reportable-rowless, reportable, end-is, the-outcome}
 use Rattle.whole_text.specs.Reads.{Reads}
 
@@ -52,14 +52,14 @@ past (x ∷ l) (suc i) d h = past l i d (omega arith)
 pub line-there : (n i : ℕ) (entries : List ℕ) → i < n → lineIn (listedIn n entries) i ≡ listedAt entries i .line
 line-there n i entries h =
     List·getD-map (λ (l : Listed). l .line) (listedIn n entries) i no-entry
-    ∙ ap (λ (l : Listed). l .line) (getD-table n (listedAt entries) no-entry i h)
+    ∙ ap (λ (l : Listed). l .line) (getD-tabulate n (listedAt entries) no-entry i h)
 
 -- and of one that is not.
 pub line-past : (n i : ℕ) (entries : List ℕ) → n ≤ i → lineIn (listedIn n entries) i ≡ 0
 line-past n i entries h =
     List·getD-map (λ (l : Listed). l .line) (listedIn n entries) i no-entry
     ∙ ap (λ (l : Listed). l .line)
-    (past (listedIn n entries) i no-entry (omega (arith, length-table n (listedAt entries))))
+    (past (listedIn n entries) i no-entry (omega (arith, length-tabulate n (listedAt entries))))
 
 -- There are as many entries without their lines.
 entries-many : (ls : List Listed) → length (entriesIn ls) ≡ length ls
@@ -80,7 +80,7 @@ module _ (text t entries : List ℕ) (count lines : ℕ) (read : Reads text t en
 
   -- So the count of the table is small,
   pub few-entries : count ≤ 4000
-  few-entries = omega (arith, few-listed, length-table count (listedAt entries))
+  few-entries = omega (arith, few-listed, length-tabulate count (listedAt entries))
 
   -- and there are few records.
   few-es : length es ≤ 4000

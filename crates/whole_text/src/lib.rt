@@ -10,7 +10,7 @@ ghost use Rattle.report_ending.specs.Finishing.{WrittenOut};
 ghost use Rattle.whole_text.specs.Reads.{Reads};
 use read_tables::ENTRY_PLACES;
 use read_tables::PLAN_PLACES;
-use report_ending::Finished;
+use report_ending::WrittenEnd;
 use spec_format::Form;
 use spec_format::Verdict;
 use spec_report::End;
@@ -35,7 +35,7 @@ fn run_plan(
     count: usize,
     lines: usize,
     buffer: &mut [u8],
-) -> Finished
+) -> WrittenEnd
     requires { ⌜ ((text : List ℕ) × Reads text (now plan) (now entries) count lines) ⌝ }
     ensures { λ r. ⌜ ((text : List ℕ) → Reads text (now (plan .entry)) (now (entries .entry)) count lines
         → WrittenOut (runText text) (now (buffer .entry)) r (now (buffer .exit))) ⌝ }
@@ -74,14 +74,14 @@ fn run_read(
     plan: &mut [u32; PLAN_PLACES],
     entries: &mut [u32; ENTRY_PLACES],
     buffer: &mut [u8],
-) -> Finished
+) -> WrittenEnd
     requires { ⌜ (now plan ≡ emptyPlan) × (length (now entries) ≡ entryPlaces) ⌝ }
     ensures { λ r. ⌜ WrittenOut (runText (now (text .entry))) (now (buffer .entry)) r (now (buffer .exit)) ⌝ }
 {
     let parsed = read_text::read(text, Form::Schedule, plan, entries);
     let verdict = parsed.verdict;
     match verdict {
-        Verdict::Refused(fault, line) => Finished {
+        Verdict::Refused(fault, line) => WrittenEnd {
             end: End::Faulty(fault, line),
             length: 0,
         },
@@ -90,7 +90,7 @@ fn run_read(
 }
 
 // Runs a text. The tables are made here, and lent.
-pub fn run_text(text: &[u8], buffer: &mut [u8]) -> Finished
+pub fn run_text(text: &[u8], buffer: &mut [u8]) -> WrittenEnd
     ensures { λ r. ⌜ WrittenOut (runText (now (text .entry))) (now (buffer .entry)) r (now (buffer .exit)) ⌝ }
 {
     let mut plan = [0u32; PLAN_PLACES];

@@ -3,8 +3,8 @@ use mathlib.Core.Path.{_≡_, sym, _∙_, ap}
 use mathlib.Core.Option.{some}
 use Rattle.spec_format.specs.declared.Entry.{Entry}
 use Rattle.spec_format.specs.ParsedLines.{entry}
-use Rattle.read_promises.specs.Promises.{entryDirective}
-use Rattle.read_promises.proofs.LineKinds.{malformed, many-entries, entry-read}
+use Rattle.read_line_promises.specs.Promises.{entryDirective}
+use Rattle.read_line_promises.proofs.LineKinds.{malformed, many-entries, entry-read}
 use borrow.Author.Needs.{needs}
 use Rattle.read_entry_lines.proofs.entry_line.Statement.{statement}
 use Rattle.read_entry_lines.proofs.entry_line.Tie as tie

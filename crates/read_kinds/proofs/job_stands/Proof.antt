@@ -3,7 +3,7 @@ use mathlib.Core.Path.{sym, _∙_, ap}
 use denote.Ref.{now}
 use lib.Dec.{ltb}
 use Rattle.spec_format.specs.declared.Sizes.{Sizes}
-use Rattle.read_promises.proofs.Lacking.{lacks-jobs}
+use Rattle.read_line_promises.proofs.Lacking.{lacks-jobs}
 use borrow.Author.Needs.{needs}
 use Rattle.read_kinds.proofs.job_stands.Statement.{statement}
 use Rattle.read_kinds.proofs.job_stands.Tie as tie

@@ -5,7 +5,7 @@ use Prim.Native.Nat.{_≤_, _<_}
 use mathlib.Core.Path.{subst}
 use Rattle.spec_format.specs.declared.Sizes.{Sizes}
 use borrow.Author.Tests.{lt-ltb, le-ltb}
-use Rattle.read_promises.proofs.Lacking.{lacks-jobs}
+use Rattle.read_line_promises.proofs.Lacking.{lacks-jobs}
 use borrow.Author.Needs.{needs}
 use Rattle.read_kinds.proofs.laid_out.Statement.{statement}
 use Rattle.read_kinds.proofs.laid_out.Tie as tie

@@ -1,8 +1,8 @@
 -- `read_kind` hands each kind to its own function. Assumes nothing.
 use Rattle.spec_format.specs.declared.Kind.{Kind}
-use Rattle.read_promises.specs.declared.MoveKind.{MoveKind}
-use Rattle.read_promises.specs.declared.EntryKind.{EntryKind}
-use Rattle.read_promises.specs.Promises.{moveDirective, entryDirective}
+use Rattle.read_line_promises.specs.declared.MoveKind.{MoveKind}
+use Rattle.read_line_promises.specs.declared.EntryKind.{EntryKind}
+use Rattle.read_line_promises.specs.Promises.{moveDirective, entryDirective}
 use Rattle.read_line.proofs.Arms.{at-kind, at-three, says-move, says-entry, at-unknown, standing-at}
 use borrow.Author.Needs.{needs}
 use Rattle.read_line.proofs.read_kind.Statement.{statement}

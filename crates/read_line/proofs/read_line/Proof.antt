@@ -9,7 +9,7 @@ use denote.Ref.{now}
 use Rattle.read_fields.specs.FieldPlaces.{placeOf}
 use Rattle.spec_format.specs.Kinds.{kindOf}
 use Rattle.spec_format.specs.Faults.{isUnknown, stands}
-use Rattle.read_promises.specs.Promises.{draftOf}
+use Rattle.read_line_promises.specs.Promises.{draftOf}
 use Rattle.read_line.proofs.Arms.{done-unknown, done-misplaced, done-read, standing}
 use borrow.Author.Needs.{needs}
 use Rattle.read_line.proofs.read_line.Statement.{statement}

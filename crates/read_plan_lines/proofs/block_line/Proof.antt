@@ -8,7 +8,7 @@ use Rattle.read_fields.specs.FieldPlaces.{fieldsAt}
 use Rattle.spec_format.specs.declared.Kind.{Kind}
 use Rattle.spec_format.specs.declared.Sizes.{Sizes}
 use Rattle.read_tables.specs.PlanTable.{wordsAt, sizesIn}
-use Rattle.read_promises.proofs.LineKinds.{bad-item, good-item, malformed, block-read}
+use Rattle.read_line_promises.proofs.LineKinds.{bad-item, good-item, malformed, block-read}
 use Rattle.read_plan_lines.specs.PartRead.{WordsRead}
 use borrow.Author.Needs.{needs}
 use Rattle.read_plan_lines.proofs.block_line.Statement.{statement}

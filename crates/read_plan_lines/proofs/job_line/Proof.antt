@@ -15,7 +15,7 @@ use Rattle.spec_format.specs.declared.Sizes.{Sizes}
 use Rattle.spec_format.specs.declared.Job.{Job}
 use Rattle.spec_format.specs.ParsedLines.{directiveOf, job}
 use Rattle.read_tables.specs.PlanTable.{sizesIn}
-use Rattle.read_promises.proofs.LineKinds.{malformed, bad-job, job-read}
+use Rattle.read_line_promises.proofs.LineKinds.{malformed, bad-job, job-read}
 use borrow.Author.Needs.{needs}
 use Rattle.read_plan_lines.proofs.job_line.Statement.{statement}
 use Rattle.read_plan_lines.proofs.job_line.Tie as tie

@@ -10,7 +10,7 @@ use Rattle.spec_format.specs.declared.Job.{Job}
 use Rattle.spec_format.specs.Plan.{tabulate}
 use Rattle.spec_format.specs.Faults.{taken}
 use Rattle.read_tables.specs.PlanTable.{jobAt}
-use Rattle.read_promises.proofs.Search.{found, none-more}
+use Rattle.read_line_promises.proofs.Search.{found, none-more}
 use Rattle.read_plan_lines.proofs.job_taken.Statement.{statement}
 use Rattle.read_plan_lines.proofs.job_taken.Tie as tie
 

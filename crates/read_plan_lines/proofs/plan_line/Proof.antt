@@ -10,7 +10,7 @@ use Rattle.spec_format.specs.declared.Kind.{Kind}
 use Rattle.spec_format.specs.declared.Sizes.{Sizes}
 use Rattle.spec_format.specs.ParsedLines.{directiveOf, plan}
 use Rattle.read_tables.proofs.Puts.{put-alike}
-use Rattle.read_promises.proofs.LineKinds.{good-item, malformed, bad-size, plan-read}
+use Rattle.read_line_promises.proofs.LineKinds.{good-item, malformed, bad-size, plan-read}
 use borrow.Author.Needs.{needs}
 use Rattle.read_plan_lines.proofs.plan_line.Statement.{statement}
 use Rattle.read_plan_lines.proofs.plan_line.Tie as tie

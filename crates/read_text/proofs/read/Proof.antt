@@ -6,7 +6,7 @@ use denote.Ref.{now}
 use lib.ListN.{length}
 use Rattle.spec_text.specs.Lines.{lines}
 use Rattle.spec_format.specs.Reading.{blank, readLines}
-use Rattle.read_promises.specs.Promises.{ReadTables, readTables, Consistent}
+use Rattle.read_line_promises.specs.Promises.{ReadTables, readTables, Consistent}
 use Rattle.read_text.specs.declared.Advance.{Advance}
 use Rattle.read_text.specs.Cursors.{Placed, rest, Advanced}
 use Rattle.read_text.proofs.ReadOn.{starts, too-long, gives-refusal, gives-early, gives-plan, same-advance}

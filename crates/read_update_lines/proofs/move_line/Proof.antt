@@ -14,10 +14,10 @@ use Rattle.spec_format.specs.Plan.{blockOf, target, named, blocksWritten, tabul
 use Rattle.spec_format.specs.Faults.{someFrom}
 use Rattle.spec_format.specs.ParsedLines.{move}
 use Rattle.read_tables.specs.PlanTable.{sizesIn, updatesIn, countAt, targetAt, updateAt}
-use Rattle.read_promises.specs.Promises.{Consistent, moveDirective, writesTo}
-use Rattle.read_promises.proofs.NamedWords.{below, some-words, blocks-more}
-use Rattle.read_promises.proofs.LineKinds.{malformed, bad-move, move-read, count-is}
-use Rattle.read_promises.proofs.LineKinds.{judged-many, judged-past, judged-blocks, judged-none}
+use Rattle.read_line_promises.specs.Promises.{Consistent, moveDirective, writesTo}
+use Rattle.read_line_promises.proofs.NamedWords.{below, some-words, blocks-more}
+use Rattle.read_line_promises.proofs.LineKinds.{malformed, bad-move, move-read, count-is}
+use Rattle.read_line_promises.proofs.LineKinds.{judged-many, judged-past, judged-blocks, judged-none}
 use borrow.Author.Needs.{needs}
 use Rattle.read_update_lines.proofs.move_line.Statement.{statement}
 use Rattle.read_update_lines.proofs.move_line.Tie as tie

@@ -7,7 +7,7 @@ use Rattle.spec_format.specs.declared.Kind.{Kind}
 use Rattle.spec_text.specs.Lines.{numbers}
 use Rattle.read_fields.specs.FieldPlaces.{fieldsAt}
 use Rattle.spec_format.specs.ParsedLines.{directiveOf, update}
-use Rattle.read_promises.proofs.LineKinds.{malformed, many-updates, update-read}
+use Rattle.read_line_promises.proofs.LineKinds.{malformed, many-updates, update-read}
 use borrow.Author.Needs.{needs}
 use Rattle.read_update_lines.proofs.update_line.Statement.{statement}
 use Rattle.read_update_lines.proofs.update_line.Tie as tie

@@ -9,8 +9,8 @@ use lib.Dec.{eqb}
 use denote.Ref.{now}
 use Rattle.spec_format.specs.Plan.{blockOf, tabulate}
 use Rattle.read_tables.specs.PlanTable.{targetAt}
-use Rattle.read_promises.specs.Promises.{writesTo}
-use Rattle.read_promises.proofs.Search.{found, none-more}
+use Rattle.read_line_promises.specs.Promises.{writesTo}
+use Rattle.read_line_promises.proofs.Search.{found, none-more}
 use Rattle.read_written_blocks.proofs.writes_block.Statement.{statement}
 use Rattle.read_written_blocks.proofs.writes_block.Tie as tie
 

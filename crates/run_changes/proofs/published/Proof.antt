@@ -8,7 +8,7 @@ use borrow.Author.Needs.{needs}
 use Rattle.spec_text.specs.FirstPlaces.{inFirstPlaces}
 use Rattle.spec_format.specs.Plan.{tabulate}
 use Rattle.step_cells.specs.CellTable.{places, currAt}
-use Rattle.run_changes.proofs.FirstPlaces.{one-more-of}
+use Rattle.run_changes.proofs.PutOneByOne.{one-more-of}
 use Rattle.run_changes.proofs.published.Statement.{statement}
 use Rattle.run_changes.proofs.published.Tie as tie
 

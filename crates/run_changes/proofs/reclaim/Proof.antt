@@ -7,7 +7,7 @@ use native.Mathlib.Omega.{arith}
 use lib.ListN.{length, getD, length-append}
 use Rattle.spec_machine.specs.Steps.{replaced}
 use Rattle.step_cells.specs.CellTable.{places, dirtyAt}
-use Rattle.run_changes.proofs.FirstPlaces.{replaced-written, replaced-unwritten, has-place}
+use Rattle.run_changes.proofs.PutOneByOne.{replaced-written, replaced-unwritten, has-place}
 use Rattle.run_changes.proofs.Reclaiming.{Puts, puts-none, puts-more, puts-marks, puts-all}
 use Rattle.run_changes.proofs.reclaim.Statement.{statement}
 use Rattle.run_changes.proofs.reclaim.Tie as tie

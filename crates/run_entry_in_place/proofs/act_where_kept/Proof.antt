@@ -1,5 +1,5 @@
--- `act_where_kept` meets its contract: a walk of its MIR. The borrow of the registers is opened, they are copied out
--- of it, `run_entry::act` is called on the copy and is handed the references for good, the registers that it returned are
+-- `act_where_kept` meets its contract: a walk of its MIR. The borrow of the registers is opened, they are copied out of
+-- it, `run_entry::act` is called on the copy and is handed the references for good, the registers that it returned are
 -- stored over the old ones, and the borrow is closed at them.
 -- Assumes nothing.
 use mathlib.Core.Path.{refl}

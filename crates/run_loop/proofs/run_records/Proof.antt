@@ -95,10 +95,10 @@ use Rattle.run_loop.specs.RunReached.{Starts}
 use Rattle.run_loop.proofs.OneAfterAnother as law
 use Rattle.run_loop.proofs.OneAfterAnother.{noEntry}
 -- the callees
-use Rattle.step_registers.proofs.idle as id
-use Rattle.step_registers.proofs.idle.Symbol as id-def
-use Rattle.step_registers.proofs.idle.Symbol.{name as #idle}
-use Rattle.step_registers.proofs.idle.Met as id-thm
+use Rattle.step_shared.proofs.idle as id
+use Rattle.step_shared.proofs.idle.Symbol as id-def
+use Rattle.step_shared.proofs.idle.Symbol.{name as #idle}
+use Rattle.step_shared.proofs.idle.Met as id-thm
 use Rattle.run_judge.proofs.changed as ch
 use Rattle.run_judge.proofs.changed.Symbol as ch-def
 use Rattle.run_judge.proofs.changed.Symbol.{name as #changed}
@@ -832,7 +832,7 @@ run-records-spec 𝓤 H 𝓜 𝓖 𝓡 =
     (here .C) (here .Λ) #run-records code.function (code.unfolded 𝓤 H 𝓜 𝓡)
     (all-meets 𝓤 H (𝓖 .A) (givenOf 𝓤 H 𝓜 𝓖) (𝓜 .mem) (𝓡 .run) (tablesOf 𝓤 H 𝓜 here)
     (cited 𝓤 H (Idle 𝓤 H (𝓖 .A) (𝓜 .mem) (𝓡 .run)) 𝓜 𝓡 code.env #idle id-def.routine
-    code.calls-step-registers·idle (id-thm.met 𝓤 H 𝓜 𝓖 𝓡))
+    code.calls-step-shared·idle (id-thm.met 𝓤 H 𝓜 𝓖 𝓡))
     (cited 𝓤 H (Judge 𝓤 H (𝓖 .A) (𝓜 .mem) (𝓡 .run)) 𝓜 𝓡 code.env #judge-record jr-def.routine
     code.calls-run-judge·judge-record (jr-thm.met 𝓤 H 𝓜 𝓖 𝓡))
     (cited 𝓤 H (Changed 𝓤 H (𝓖 .A) (𝓜 .mem) (𝓡 .run)) 𝓜 𝓡 code.env #changed ch-def.routine

@@ -7,7 +7,7 @@ use lib.ListN.{length}
 use lib.Seq.{paste}
 use denote.Ref.{now}
 use Rattle.spec_format.specs.declared.Sizes.{Sizes}
-use Rattle.spec_format.proofs.Tabulated.{length-table}
+use Rattle.spec_format.proofs.Tabulated.{length-tabulate}
 use Rattle.read_tables.specs.Puts.{part}
 use Rattle.read_tables.specs.PlanTable.{wordsAt, wordAt, sizesIn}
 use Rattle.run_opening.specs.Opened.{emptyStore}
@@ -70,7 +70,7 @@ returns c =
     (memory (z .sizes .result))) (s .pre .1)
     ∙ ap (λ (y : Sizes). paste emptyStore (start y) (part t wordsAt (memory y)) (memory y)) (z .sizes .ensures)
     ∙ ap (λ n. paste emptyStore (start (sizesIn t)) (part t wordsAt (memory (sizesIn t))) n)
-    (sym (length-table (memory (sizesIn t)) (wordAt t)))
+    (sym (length-tabulate (memory (sizesIn t)) (wordAt t)))
 
 pub open-store-spec : {M : Type 1} → statement M
 open-store-spec =

@@ -7,7 +7,7 @@ use native.Mathlib.Omega.{arith}
 use lib.ListN.{length, getD, set}
 use lib.Seq.{paste, paste-zero, paste-suc, length-paste}
 use denote.Ref.{now}
-use Rattle.spec_format.proofs.Tabulated.{length-table, getD-table}
+use Rattle.spec_format.proofs.Tabulated.{length-tabulate, getD-tabulate}
 use Rattle.read_tables.specs.Puts.{part}
 use Rattle.read_tables.specs.PlanTable.{wordsAt, wordAt}
 use Rattle.run_opening.proofs.put_words.Statement.{statement}
@@ -27,7 +27,7 @@ start c = c .before .before
 many : (c : tie.At-loop Inv-loop μ-loop) →
     let a = start c .args in
     length (part (now (a .plan)) wordsAt (a .n)) ≡ a .n
-many c = let a = start c .args in length-table (a .n) (wordAt (now (a .plan)))
+many c = let a = start c .args in length-tabulate (a .n) (wordAt (now (a .plan)))
 
 -- The store is as long as it was lent.
 kept : (c : tie.At-loop Inv-loop μ-loop) → length (c .loop .store) ≡ length (now (start c .args .store))
@@ -67,7 +67,7 @@ loop-again c =
     let l = y .loop in
     let words = part (now (a .plan)) wordsAt (a .n) in
     let is-word : getD words (l .i) 0 ≡ c .word .result =
-    getD-table (a .n) (wordAt (now (a .plan))) 0 (l .i) (c .before .loop-test .taken) ∙ sym (c .word .ensures) in (
+    getD-tabulate (a .n) (wordAt (now (a .plan))) 0 (l .i) (c .before .loop-test .taken) ∙ sym (c .word .ensures) in (
       omega arith,
       ap₂ (λ (st : List ℕ) n. set st (a .at + l .i) n) (l .inv .1) (sym is-word)
           ∙ paste-suc (now (a .store)) (a .at) words (l .i) 0 (omega arith) (omega (arith, many y))

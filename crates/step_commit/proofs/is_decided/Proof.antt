@@ -5,7 +5,7 @@ use lib.IntN.{pos}
 use lib.ListN.{getD}
 use Rattle.spec_machine.specs.Status.{sameStatus}
 use Rattle.spec_machine.proofs.ListsByPlace.{getD-any}
-use Rattle.step_registers.proofs.Statuses.{bits-test}
+use Rattle.step_shared.proofs.Statuses.{bits-test}
 use borrow.Author.Needs.{needs}
 use Rattle.step_commit.proofs.is_decided.Statement.{statement}
 use Rattle.step_commit.proofs.is_decided.Tie as tie

@@ -1,4 +1,4 @@
--- `write` is the write stage, by what `onward` and `written` ensure. Assumes nothing.
+-- `write` is the write stage, by what `onward` and `word_written` ensure. Assumes nothing.
 use Rattle.spec_machine.specs.Steps.{stage, item}
 use Rattle.step_cells.specs.Tables.{ownOf}
 use Rattle.step_cells.specs.Effects.{Does}

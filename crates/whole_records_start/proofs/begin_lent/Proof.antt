@@ -21,8 +21,8 @@ abbrev start : tie.After-read → tie.Start
 start c = c .before .before .before .before .before
 
 -- The tables that the text was read into.
-abbrev table-of : tie.After-read → List ℕ
-table-of c = c .read .last .1 .1 .0
+abbrev tabulate-of : tie.After-read → List ℕ
+tabulate-of c = c .read .last .1 .1 .0
 
 abbrev entries-of : tie.After-read → List ℕ
 entries-of c = c .read .last .1 .1 .1 .0
@@ -32,25 +32,25 @@ verdict : (c : tie.After-read)
     → verdictOf (reading Form.PlanAlone (now (start c .args .text))) ≡ c .read .result .verdict
 verdict c =
     let r = c .read .result in
-    sym (verdict-kept (r .verdict) (table-of c) (r .entries) (entries-of c) ∙ ap verdictOf (c .read .ensures))
+    sym (verdict-kept (r .verdict) (tabulate-of c) (r .entries) (entries-of c) ∙ ap verdictOf (c .read .ensures))
 
 -- The plan that was read, where the text is accepted.
 accepts : (c : tie.After-read) (lines : ℕ) → c .read .result .verdict ≡ Verdict.Accepted lines
-    → readingFrom (Verdict.Accepted lines) (table-of c) (c .read .result .entries) (entries-of c)
+    → readingFrom (Verdict.Accepted lines) (tabulate-of c) (c .read .result .entries) (entries-of c)
     ≡ reading Form.PlanAlone (now (start c .args .text))
 accepts c lines e =
     subst
     (λ v.
-    readingFrom v (table-of c) (c .read .result .entries) (entries-of c)
+    readingFrom v (tabulate-of c) (c .read .result .entries) (entries-of c)
     ≡ reading Form.PlanAlone (now (start c .args .text)))
     e
     (c .read .ensures)
 
 -- It is sound.
 sound : (c : tie.After-read) (lines : ℕ) → c .read .result .verdict ≡ Verdict.Accepted lines
-    → Sound (planIn (table-of c))
+    → Sound (planIn (tabulate-of c))
 sound c lines e =
-    accepted-sound Form.PlanAlone (now (start c .args .text)) (planIn (table-of c)) _ _ (sym (accepts c lines e))
+    accepted-sound Form.PlanAlone (now (start c .args .text)) (planIn (tabulate-of c)) _ _ (sym (accepts c lines e))
 
 read-requires : tie.Need-read-requires
 read-requires c κs = search needs
