@@ -1,2 +1,2 @@
--- Registers at a line of a row, and on to the next.
-pub mod Rows
+-- Registers on to the next listed block.
+pub mod NextBlock

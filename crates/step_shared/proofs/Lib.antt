@@ -1,2 +1,3 @@
--- The code compares statuses by their bits.
+-- Laws that the items use: the code compares statuses by their bits; the card of a job.
 pub mod Statuses
+pub mod Card

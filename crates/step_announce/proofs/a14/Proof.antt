@@ -3,7 +3,7 @@ use borrow.Author.Tests.{eq-eqb, ne-eqb}
 use borrow.Author.Needs.{needs}
 use Rattle.spec_machine.specs.Steps.{item}
 use Rattle.step_cells.specs.Effects.{Does}
-use Rattle.step_announce.proofs.Card.{card-in, card-small}
+use Rattle.step_shared.proofs.Card.{card-in, card-small}
 use Rattle.step_announce.proofs.a14.Statement.{statement}
 use Rattle.step_announce.proofs.a14.Tie as tie
 

@@ -2,7 +2,7 @@
 use borrow.Author.Needs.{needs}
 use Rattle.spec_machine.specs.Steps.{item}
 use Rattle.step_cells.specs.Effects.{Does}
-use Rattle.step_announce.proofs.Card.{card-in, card-small}
+use Rattle.step_shared.proofs.Card.{card-in, card-small}
 use Rattle.step_announce.proofs.a15.Statement.{statement}
 use Rattle.step_announce.proofs.a15.Tie as tie
 

@@ -6,7 +6,7 @@ use borrow.Author.Needs.{needs}
 use Rattle.read_tables.specs.PlanTable.{sizesIn}
 use Rattle.spec_machine.specs.Steps.{item}
 use Rattle.step_cells.specs.Effects.{Does}
-use Rattle.step_announce.proofs.Card.{card-in}
+use Rattle.step_shared.proofs.Card.{card-in}
 use Rattle.step_announce.proofs.a4.Statement.{statement}
 use Rattle.step_announce.proofs.a4.Tie as tie
 

@@ -1,2 +1,0 @@
--- The laws behind the items.
-pub mod Card

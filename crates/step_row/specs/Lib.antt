@@ -1,0 +1,2 @@
+-- Registers at a line of a row.
+pub mod Rows
