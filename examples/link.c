@@ -1,6 +1,6 @@
 /*
- * Links the library from C: runs a text, then the same schedule as records beside the plan's text, and prints both
- * reports. The status is 0 only if they are what document 01 says. From the project's root:
+ * Links the library from C: checks and runs a text, runs the same schedule as records beside the plan's text, and
+ * prints both reports. The status is 0 only if every answer is what document 01 says. From the project's root:
  *
  * rt staticlib public_point_memory
  * cc -std=c99 -O2 -I include examples/link.c -L target/staticlib -l:libpublic_point_memory.a -o target/link_c
@@ -27,11 +27,17 @@ static int shown(const char *way, point_memory_ended ended, const uint8_t *buffe
            memcmp(buffer, report, ended.length) == 0;
 }
 
+/* Prints what a check answers; answers whether it is the expected one. */
+static int checked(const char *way, point_memory_answer answer, size_t number, size_t line) {
+    printf("%s: number %zu, line %zu\n", way, answer.number, answer.line);
+    return answer.number == number && answer.line == line;
+}
+
 int main(void) {
     static uint8_t buffer[POINT_MEMORY_REPORT_ROOM];
     point_memory_entry records[1 + STEPS] = {{POINT_MEMORY_CALL, 0, 0}};
     char text[sizeof plan + sizeof "call\t0\t0\n" + STEPS * sizeof "step\t0\n"];
-    int as_text, as_records, i;
+    int accepted, plan_alone, as_text, as_records, i;
 
     /* The schedule: one call, then the steps in which it is carried out and returns. */
     strcpy(text, plan);
@@ -41,12 +47,14 @@ int main(void) {
         records[i].kind = POINT_MEMORY_STEP;
     }
 
-    /* The lengths do not count the zero byte that ends a C string. */
+    /* The lengths do not count the zero byte that ends a C string. The text is no plan's text: line 6 is an entry. */
+    accepted = checked("check", point_memory_check((const uint8_t *)text, strlen(text)), 0, 39);
+    plan_alone = checked("check of a plan", point_memory_check_plan((const uint8_t *)text, strlen(text)), 3, 6);
     as_text = shown("text", point_memory_run((const uint8_t *)text, strlen(text), buffer, sizeof buffer), buffer, 39,
                     "commit\t29\t0\t0\nblock\t7\nend\t0\t39\n");
     as_records = shown("records",
                        point_memory_run_schedule((const uint8_t *)plan, strlen(plan), records, 1 + STEPS, buffer,
                                                  sizeof buffer),
                        buffer, 34, "commit\t29\t0\t0\nblock\t7\nend\t0\t34\n");
-    return as_text && as_records ? 0 : 1;
+    return accepted && plan_alone && as_text && as_records ? 0 : 1;
 }

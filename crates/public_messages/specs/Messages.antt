@@ -37,13 +37,13 @@ abbrev pub entryPart : ℕ → List ℕ
 entryPart entry = cond (eqb entry 0) [] (bytes ", entry " ++ decimal entry)
 
 -- Where a refusal was met: `line 7, entry 2: `; nothing for the text as a whole, which is line 0.
-abbrev pub place : ℕ → ℕ → List ℕ
-place line entry = cond (eqb line 0) [] (bytes "line " ++ (decimal line ++ (entryPart entry ++ bytes ": ")))
+abbrev pub whereMet : ℕ → ℕ → List ℕ
+whereMet line entry = cond (eqb line 0) [] (bytes "line " ++ (decimal line ++ (entryPart entry ++ bytes ": ")))
 
 -- The line of a refusal, by its number, its line and its entry: `line 7, entry 2: refused with 12: ..`.
 abbrev pub refusalLine : ℕ → ℕ → ℕ → List ℕ
 refusalLine number line entry =
-    place line entry
+    whereMet line entry
     ++ (bytes "refused with " ++ (decimal number ++ (bytes ": " ++ (meaning number ++ (10 ∷ [])))))
 
 -- What is said of an end: the line of a refusal by 1 to 14; nothing of acceptance, nor of any other number.

@@ -7,7 +7,7 @@ ghost use lib.ListN.{length, getD};
 ghost use Rattle.spec_text.specs.FirstPlaces.{inFirstPlaces};
 ghost use Rattle.io.specs.Counts.{Counts};
 ghost use Rattle.report_bytes.specs.Writes.{Writes};
-ghost use Rattle.public_messages.specs.Messages.{meaning, entryPart, place, refusalLine, message};
+ghost use Rattle.public_messages.specs.Messages.{meaning, entryPart, whereMet, refusalLine, message};
 
 // Room for every line.
 pub const MESSAGE: usize = 200;
@@ -61,8 +61,8 @@ fn put_entry(buffer: &mut [u8], at: usize, entry: u32) -> usize
 }
 
 // Where a refusal was met, at the buffer's start.
-fn put_place(buffer: &mut [u8], line: u32, entry: u32) -> usize
-    ensures { λ r. ⌜ Writes (place line entry) 35 0 (now (buffer .entry)) r (now (buffer .exit)) ⌝ }
+fn put_where_met(buffer: &mut [u8], line: u32, entry: u32) -> usize
+    ensures { λ r. ⌜ Writes (whereMet line entry) 35 0 (now (buffer .entry)) r (now (buffer .exit)) ⌝ }
 {
     if line == 0 {
         return 0;
@@ -78,7 +78,7 @@ fn put_refusal(buffer: &mut [u8], number: u32, line: u32, entry: u32) -> usize
     requires { ⌜ number < 15 ⌝ }
     ensures { λ r. ⌜ Writes (refusalLine number line entry) 161 0 (now (buffer .entry)) r (now (buffer .exit)) ⌝ }
 {
-    let start = put_place(buffer, line, entry);
+    let start = put_where_met(buffer, line, entry);
     let with = report_bytes::put_bytes(buffer, start, b"refused with ");
     let colon = report_bytes::put_decimal(buffer, with, number);
     let sentence = report_bytes::put_bytes(buffer, colon, b": ");

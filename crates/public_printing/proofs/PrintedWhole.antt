@@ -20,7 +20,7 @@ use Rattle.spec_machine.specs.History.{runOf}
 use Rattle.spec_machine.proofs.EveryRun.{always}
 use Rattle.spec_report.specs.declared.End.{End}
 use Rattle.spec_report.specs.Report.{endNumber, endLine, endEntry, reportEnd}
-use Rattle.spec_report.specs.Outcomes.{RunOutcome, refused, reported, ended, handed, left, ofReading, runText, printed}
+use Rattle.spec_report.specs.Outcomes.{RunOutcome, refused, reported, endWith, handed, left, ofReading, runText, printed}
 use Rattle.spec_report.proofs.Ends.{end-low, entry-low}
 use Rattle.spec_report_length.specs.Longest.{longestEnd, longestReport}
 use Rattle.spec_report_length.proofs.LineLengths.{end-number, end-short}
@@ -36,7 +36,7 @@ use Rattle.public_printing.specs.declared.Printed.{Printed}
 use Rattle.public_printing.specs.Printing.{answered, endOfOutcome, runAnswer, endOfCheck, checkAnswer}
 
 -- With room for all that is printed a run does not end with 15,
-ended-so : (o : RunOutcome) (before : List ℕ) → length (printed o) ≤ length before → ended o before ≡ endOfOutcome o
+ended-so : (o : RunOutcome) (before : List ℕ) → length (printed o) ≤ length before → endWith o before ≡ endOfOutcome o
 unfolding printed
 ended-so (refused f n) before short = refl
 ended-so (reported e bytes) before short = rw (le-leb (length bytes) (length before) short)

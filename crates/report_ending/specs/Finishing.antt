@@ -4,14 +4,14 @@ use Prim.Native.Nat.{ℕ}
 use mathlib.Core.Path.{_≡_}
 use mathlib.Core.List.{List}
 use lib.ListN.{length}
-use Rattle.spec_report.specs.Outcomes.{RunOutcome, ended, handed, left}
+use Rattle.spec_report.specs.Outcomes.{RunOutcome, endWith, handed, left}
 use Rattle.spec_report.specs.Report.{endNumber, endLine}
 use Rattle.report_ending.specs.declared.WrittenEnd.{WrittenEnd}
 use Rattle.report_ending.specs.declared.Ended.{Ended}
 
 -- An outcome was written out: how it ended, how long the report is, and what the buffer then holds.
 pub record WrittenOut (o : RunOutcome) (before : List ℕ) (r : WrittenEnd) (after : List ℕ) : Type 0 where
-  pub end-is : r .end ≡ ended o before
+  pub end-is : r .end ≡ endWith o before
   pub length-is : r .length ≡ length (handed o before)
   pub left-is : after ≡ left o before
 
@@ -23,7 +23,7 @@ endedBy f = record { number = endNumber (f .end); line = endLine (f .end); lengt
 abbrev pub endedOf : RunOutcome → List ℕ → Ended
 endedOf o buffer =
     record {
-      number = endNumber (ended o buffer);
-      line = endLine (ended o buffer);
+      number = endNumber (endWith o buffer);
+      line = endLine (endWith o buffer);
       length = length (handed o buffer);
     }

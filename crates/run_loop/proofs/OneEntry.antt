@@ -28,7 +28,7 @@ use Rattle.run_judge.specs.Rulings.{refusalNumbered, haltOf, otherAfter, unless
 use Rattle.run_judge.proofs.WhoRuns.{halted-is}
 use Rattle.run_entry.specs.Acting.{rowsBy, entriesBy, haltBy, Judged, Kept, Acts}
 use Rattle.run_loop.specs.CommitRows.{rowsIn}
-use Rattle.run_loop.specs.RunReached.{placeOf, Reached}
+use Rattle.run_loop.specs.RunReached.{placeNoted, Reached}
 use Rattle.run_loop.proofs.NextEntry.{run-more, run-stopped, rows-call, rows-step, accepted-range}
 use Rattle.run_loop.proofs.Others.{other-kept}
 
@@ -204,7 +204,7 @@ module _ (t : List ℕ) (all done rest : List Entry) (e : Entry) {ws : List Regi
               ∙ rows-after
               ∙ ap (λ (r : Run). rowsIn all (commitsIn (r .history))) (sym next);
           other-is =
-              ap placeOf (a .other-is)
+              ap placeNoted (a .other-is)
               ∙ other-kept done e (bookOf x .other) (suc (length done)) (g .other-is) refl;
           whole = a .whole;
           all-registers = sixteen;

@@ -13,7 +13,7 @@ use lib.ListN.{length}
 use Rattle.spec_format.specs.declared.Entry.{Entry}
 use Rattle.spec_report.specs.Outcomes.{isOther, otherFrom}
 use Rattle.run_judge.specs.Rulings.{otherAfter}
-use Rattle.run_loop.specs.RunReached.{placeOf}
+use Rattle.run_loop.specs.RunReached.{placeNoted}
 
 -- The first of two places, where there is one.
 abbrev orElse : Option ℕ → Option ℕ → Option ℕ
@@ -53,9 +53,9 @@ other-more k (x ∷ es) e = by (isOther x) (other-more (k + 1) es e)
         more ∙ ap (λ n. orElse (otherFrom (k + 1) es) (cond (isOther e) (some n) none)) same
 
 -- What the code keeps of it.
-pub other-kept : (es : List Entry) (e : Entry) (other place : ℕ) → placeOf other ≡ otherFrom 1 es
+pub other-kept : (es : List Entry) (e : Entry) (other place : ℕ) → placeNoted other ≡ otherFrom 1 es
     → place ≡ suc (length es)
-    → placeOf (otherAfter other place (e .kind)) ≡ otherFrom 1 (es ++ (e ∷ []))
+    → placeNoted (otherAfter other place (e .kind)) ≡ otherFrom 1 (es ++ (e ∷ []))
 other-kept es e other place was here =
     by other
     ∙ ap (λ q. orElse q (cond (isOther e) (some (suc (length es))) none)) was
@@ -67,13 +67,13 @@ other-kept es e other place was here =
     one-more = omega arith
 
     -- where there was none
-    new : (b : Bool) → placeOf (cond b place 0) ≡ cond b (some (suc (length es))) none
-    new true = ap placeOf here
+    new : (b : Bool) → placeNoted (cond b place 0) ≡ cond b (some (suc (length es))) none
+    new true = ap placeNoted here
     new false = refl
 
     -- by whether there was one
     by : (n : ℕ)
-        → placeOf (otherAfter n place (e .kind))
-        ≡ orElse (placeOf n) (cond (isOther e) (some (suc (length es))) none)
+        → placeNoted (otherAfter n place (e .kind))
+        ≡ orElse (placeNoted n) (cond (isOther e) (some (suc (length es))) none)
     by zero = new (ltb 1 (e .kind)) ∙ ap (λ b. cond b (some (suc (length es))) none) (sym (over-one e))
     by (suc n) = rw (lt-ltb 0 (suc n) (omega arith))

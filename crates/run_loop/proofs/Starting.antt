@@ -19,7 +19,7 @@ use Rattle.step_cells.specs.Book.{bookOf}
 use Rattle.run_judge.specs.WhoRuns.{WhoRuns}
 use Rattle.run_judge.specs.Rulings.{haltOf}
 use Rattle.run_judge.proofs.WhoRuns.{who-runs-opening}
-use Rattle.run_loop.specs.RunReached.{placeOf, Reached, Starts}
+use Rattle.run_loop.specs.RunReached.{placeNoted, Reached, Starts}
 use Rattle.run_opening.specs.Opened.{emptyRows, Blank, Opened}
 
 module _ {t cells : List ℕ} {stat : List ℤ} {store : List ℕ} (ok : Sound (planIn t))
@@ -70,7 +70,7 @@ module _ {t cells : List ℕ} {stat : List ℤ} {store : List ℕ} (ok : Sound (
         few-done = omega (arith, blank .entries);
         few-rows = omega (arith, blank .committed);
         rows-are = ap (λ (n : ℕ). take n commits) (blank .committed);
-        other-is = ap placeOf (blank .other);
+        other-is = ap placeNoted (blank .other);
         whole = whole;
         all-registers = length-replicate 16 idle;
       }

@@ -18,9 +18,9 @@ use Rattle.run_judge.specs.Rulings.{haltOf}
 use Rattle.run_loop.specs.CommitRows.{rowsIn}
 
 -- A place, where 0 is none.
-abbrev pub placeOf : ℕ → Option ℕ
-placeOf zero = none
-placeOf (suc n) = some (suc n)
+abbrev pub placeNoted : ℕ → Option ℕ
+placeNoted zero = none
+placeNoted (suc n) = some (suc n)
 
 -- A run of the plan in a table has come through the records `done` of the schedule `all`.
 pub record Reached (t : List ℕ) (all done : List Entry) (ws : List Registers) (x : Tables) : Type 0 where
@@ -32,7 +32,7 @@ pub record Reached (t : List ℕ) (all done : List Entry) (ws : List Registers) 
   pub few-rows : bookOf x .committed ≤ bookOf x .entries
   pub rows-are :
       take (bookOf x .committed) (x .commits) ≡ rowsIn all (commitsIn (runOf (planIn t) done .history))
-  pub other-is : placeOf (bookOf x .other) ≡ otherFrom 1 done
+  pub other-is : placeNoted (bookOf x .other) ≡ otherFrom 1 done
   pub whole : Whole x
   pub all-registers : length ws ≡ 16
 

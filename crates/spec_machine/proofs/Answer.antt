@@ -112,7 +112,7 @@ module _
       -- by how the call stands
       go : {c : ℕ} → Standing c → isDecidedUncommitted h c ≡ true → Deciding c
       go (current k on) e =
-          let d = decided-by (s .sh .stat k) (sym (told .current k on .open-is) ∙ e) in
+          let d = decided-by (s .sh .stat k) (sym (told .current k on .decided-is) ∙ e) in
           record { job = k; winner = d .0; active = on; latest-is = refl; status = d .1 }
       go (closed x) e = absurd (false≢true (sym (x .shut) ∙ e))
 
@@ -194,7 +194,7 @@ module _
     none-decided none q w e =
         false≢true
         (sym (none (latest q h))
-        ∙ told .current q (cards .whole .announced-active q (decided-announced q w e)) .open-is
+        ∙ told .current q (cards .whole .announced-active q (decided-announced q w e)) .decided-is
         ∙ ap isDecided e)
 
     -- A decided job's Trans is the update that its call names.

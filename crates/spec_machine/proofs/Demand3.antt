@@ -28,7 +28,7 @@ use Rattle.spec_machine.proofs.ListMachine.{job-seen}
 use Rattle.spec_machine.proofs.ContentsFrame.{bank-numbers}
 use Rattle.spec_machine.proofs.EveryRun.{Layers, Inv, always}
 use Rattle.spec_machine.proofs.Answer.{holds-of}
-use Rattle.spec_machine.proofs.StockRule.{bank-seen, stock-when-none-open}
+use Rattle.spec_machine.proofs.StockRule.{bank-seen, stock-when-none-decided}
 
 -- After any entries, what demand 3 says of a run holds.
 holds-after : (plan : Plan) → Sound plan → (es : List Entry) → Holds plan es (runOf plan es)
@@ -61,7 +61,7 @@ stock-rule form text plan listed lines read es none =
     let ok : Sound plan = accepted-sound form text plan listed lines read in
     let inv : Inv plan es (runOf plan es) = always plan ok es in
     let l : Layers plan es _ _ = inv .layers in
-    stock-when-none-open plan ok es (runOf plan es) (inv .sized) (l .memory) (l .counts) (l .cards) (l .epochs)
+    stock-when-none-decided plan ok es (runOf plan es) (inv .sized) (l .memory) (l .counts) (l .cards) (l .epochs)
     (l .contents) (l .told) none
 
 -- After any entries, decided or not: every array of the machine and of the jobs' records has its length, and the bank

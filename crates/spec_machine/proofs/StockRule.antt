@@ -95,7 +95,7 @@ stock-when-calm plan ok m sized g contents none =
     stock-rule plan ok m sized (λ q. contents .each q .roomy) (contents .whole .calm none .1)
 
 -- It holds where no call's update is decided and uncommitted.
-pub stock-when-none-open :
+pub stock-when-none-decided :
     (plan : Plan) → Sound plan → (es : List Entry) (r : Run) → Sized (r .machine) → (g : Ghost) (H : Tally)
     → CardsHold (layout plan) (stateIn plan (r .machine))
     → EpochsHold (layout plan) (stateIn plan (r .machine))
@@ -103,5 +103,5 @@ pub stock-when-none-open :
     → Told plan es (r .history) (stateIn plan (r .machine)) g H
     → ((c : ℕ) → isDecidedUncommitted (r .history) c ≡ false)
     → StockRule plan (r .machine)
-stock-when-none-open plan ok es r sized g H cards epochs contents told none =
+stock-when-none-decided plan ok es r sized g H cards epochs contents told none =
     stock-when-calm plan ok (r .machine) sized g contents (none-decided told cards epochs none)

@@ -58,9 +58,9 @@ pub record Quiet (e : Event) (c : ℕ) : Type 0 where
 -- The history h and one more event e, and call c.
 module _ (h : List Event) (e : Event) (c : ℕ) where
   -- An event that neither decides nor commits the call leaves it decided and uncommitted, or not.
-  open-same : decides c e ≡ false → commits c e ≡ false
+  decided-same : decides c e ≡ false → commits c e ≡ false
       → isDecidedUncommitted (h ++ (e ∷ [])) c ≡ isDecidedUncommitted h c
-  open-same d m = rw (any-out (decides c) h e d, any-out (commits c) h e m)
+  decided-same d m = rw (any-out (decides c) h e d, any-out (commits c) h e m)
 
   -- Where no event spoke of the call, and this one does not, none does.
   pub unused-same : Unused h c → Quiet e c → Unused (h ++ (e ∷ [])) c
@@ -109,7 +109,7 @@ tells-nothing plan es h c u l own =
     record {
       not-returned = u .not-returned;
       announced-is = u .not-announced;
-      open-is = rw (u .not-decided);
+      decided-is = rw (u .not-decided);
       commits-are = ap length (none-selected (commits c) h (u .not-committed));
       passing-are = λ y. absurd (false≢true y);
     }
@@ -143,7 +143,7 @@ module _
       record {
         not-returned = any-out (returns c) h e (q .not-returned) ∙ K .not-returned;
         announced-is = any-out (announces c) h e (q .not-announced) ∙ K .announced-is;
-        open-is = open-same h e c (q .not-decided) (q .not-committed) ∙ K .open-is;
+        decided-is = decided-same h e c (q .not-decided) (q .not-committed) ∙ K .decided-is;
         commits-are = ap length (select-out (commits c) h e (q .not-committed)) ∙ K .commits-are;
         passing-are = p;
       }
@@ -199,7 +199,7 @@ module _
       record {
         not-returned = any-out (returns c) h e b ∙ K .not-returned;
         announced-is = any-in (announces c) h e y;
-        open-is = open-same h e c q (announces-only c c e y) ∙ K .open-is;
+        decided-is = decided-same h e c q (announces-only c c e y) ∙ K .decided-is;
         commits-are = ap length (select-out (commits c) h e (announces-only c c e y)) ∙ K .commits-are;
         passing-are = λ _. p;
       }
@@ -225,7 +225,7 @@ module _
       record {
         not-returned = any-out (returns c) h e b ∙ K .not-returned;
         announced-is = any-out (announces c) h e o ∙ K .announced-is;
-        open-is =
+        decided-is =
             rw (
               any-in (decides c) h e y,
               any-out (commits c) h e (rw m),
@@ -244,7 +244,7 @@ module _
       record {
         not-returned = any-out (returns c) h e b ∙ K .not-returned;
         announced-is = any-out (announces c) h e o ∙ K .announced-is;
-        open-is = rw (any-in (commits c) h e y) (and-false (any (decides c) next));
+        decided-is = rw (any-in (commits c) h e y) (and-false (any (decides c) next));
         commits-are =
             ap length (select-in (commits c) h e y) ∙ length-append (select (commits c) h) (e ∷ [])
             ∙ ap (λ x. x + 1) (K .commits-are);
@@ -264,7 +264,7 @@ module _
       record {
         once = rw once (omega arith);
         returned = λ _. once;
-        shut = open-same h e c q (rw m) ∙ K .open-is ∙ s;
+        shut = decided-same h e c q (rw m) ∙ K .decided-is ∙ s;
         sealed =
             λ _.
             rw (after-some (announces c) h e (K .announced-is ∙ y))
@@ -285,7 +285,7 @@ closed-same plan es h e c K q =
       once = rw (select-out (commits c) h e (q .not-committed)) (K .once);
       returned =
           rw (any-out (returns c) h e (q .not-returned), select-out (commits c) h e (q .not-committed)) (K .returned);
-      shut = open-same h e c (q .not-decided) (q .not-committed) ∙ K .shut;
+      shut = decided-same h e c (q .not-decided) (q .not-committed) ∙ K .shut;
       sealed =
           rw (any-out (announces c) h e (q .not-announced))
           (λ y.

@@ -109,7 +109,7 @@ pub record Telling
     : Type 0 where
   pub not-returned : any (returns c) h ≡ false
   pub announced-is : any (announces c) h ≡ a
-  pub open-is : isDecidedUncommitted h c ≡ d
+  pub decided-is : isDecidedUncommitted h c ≡ d
   pub commits-are : length (select (commits c) h) ≡ n
   pub passing-are : a ≡ true → (r : ℕ) → r ≢ own → length (passing plan es h c r) ≡ length (l r)
 

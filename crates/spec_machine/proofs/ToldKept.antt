@@ -253,7 +253,7 @@ module _
             record {
               not-returned = K .not-returned;
               announced-is = K .announced-is;
-              open-is = K .open-is;
+              decided-is = K .decided-is;
               commits-are = K .commits-are;
               passing-are = λ y r o. rw (passing-same (latest k h) r) (K .passing-are y r o);
             }
@@ -1014,7 +1014,7 @@ module _
           → isStored (behind Place.H41 o) (latest q h) b ≡ upd (g .done) (job p .addr) true b
       stored q x d b =
           let begun : isDecidedUncommitted h (latest q h) ≡ true =
-          T .current q (C .whole .announced-active q (decided-low q x d)) .open-is ∙ ap isDecided d in
+          T .current q (C .whole .announced-active q (decided-low q x d)) .decided-is ∙ ap isDecided d in
           stored-more h (event Place.H41 o) (latest q h) b (and-l _ _ begun)
           ∙ rw (T .stored-are q x d b)
           (upd-elim (λ y. (g .done b || eqb (job p .addr) b) ≡ y) (g .done) (job p .addr) true b
@@ -1079,7 +1079,7 @@ module _
           let c : any (commits (latest helped h)) h ≡ false =
           none-passes (commits (latest helped h)) h (k .commits-are ∙ uncommitted) in
           by-test (any (decides (latest helped h)) h)
-          (λ y. absurd (true≢false (rw (y, c) at (k .open-is ∙ was .0))))
+          (λ y. absurd (true≢false (rw (y, c) at (k .decided-is ∙ was .0))))
           (λ n. n)
 
       current : (k : ℕ) → isActive (job k .place) ≡ true → Dec (k ≡ helped) → Still Place.H25 o sc H k

@@ -31,7 +31,7 @@ use Rattle.spec_report.specs.Outcomes.{
   runText,
   runSchedule,
   fits,
-  ended,
+  endWith,
   handed,
   left,
 }
@@ -166,7 +166,7 @@ rows =
     ∷ untouched (runText (oneJob 1 5 (bytes "step\t1\n"))) 15 0
     ∷ untouched (runText (oneJob 1 5 (bytes "step\t0\n"))) 15 0
     ∷ record { outcome = runText []; room = 0; number = 3; line = 1; entry = 0; handed = ""; left = "" }
-    -- records: 5 and 3 by place, an entry line in the plan's text, 11 to 14 by place, acceptance with their count
+    -- records: 5 and 3 by place, an entry line in the plan's text, a refused entry by place, acceptance with their count
     ∷ untouched (runSchedule (oneJob 1 5 []) (replicate 4001 (entry 2 0 0))) 5 4001
     ∷ untouched (runSchedule (oneJob 1 5 []) (entry 1 0 0 ∷ entry 2 0 0 ∷ [])) 3 2
     ∷ untouched (runSchedule (oneJob 1 5 (bytes "step\t0\n")) (entry 2 0 0 ∷ [])) 3 4
@@ -200,7 +200,7 @@ numbers e = endNumber e ∷ endLine e ∷ endEntry e ∷ []
 
 -- Number, line and entry of every row.
 pub all-answered :
-    map (λ (r : Row). numbers (ended (r .outcome) (lent r))) rows
+    map (λ (r : Row). numbers (endWith (r .outcome) (lent r))) rows
     ≡ map (λ (r : Row). r .number ∷ r .line ∷ r .entry ∷ []) rows
 unfolding reading lines fields number kindOf parsedOf blocksWritten decimal
     sameVersion stage item openingOf stored carriedOut itemOf

@@ -84,9 +84,9 @@ abbrev pub fits : List ℕ → List ℕ → Bool
 fits bytes buffer = leb (length bytes) (length buffer)
 
 -- How the call ends, with a buffer lent: "15 is decided last."
-abbrev pub ended : RunOutcome → List ℕ → End
-ended (refused f n) buffer = End.Faulty f n
-ended (reported e bytes) buffer = cond (fits bytes buffer) e End.NoRoom
+abbrev pub endWith : RunOutcome → List ℕ → End
+endWith (refused f n) buffer = End.Faulty f n
+endWith (reported e bytes) buffer = cond (fits bytes buffer) e End.NoRoom
 
 -- "The caller gets back the written part of the buffer it lent, empty where no report is written".
 abbrev pub handed : RunOutcome → List ℕ → List ℕ

@@ -31,7 +31,7 @@ use Rattle.spec_report.proofs.Ends.{end-low}
 use Rattle.step_cells.specs.Tables.{Tables, lent}
 use Rattle.step_cells.specs.Book.{bookOf}
 use Rattle.run_judge.specs.Rulings.{haltOf}
-use Rattle.run_loop.specs.RunReached.{placeOf, Ran}
+use Rattle.run_loop.specs.RunReached.{placeNoted, Ran}
 use Rattle.report_writer.specs.Writing.{Reportable, reportBytes}
 use Rattle.report_ending.proofs.ReportOfTables.{reportable-rowless, reportable, end-is, the-outcome}
 use Rattle.whole_records_start.specs.BeforeAndAfter.{Accepts}
@@ -71,21 +71,21 @@ module _ (text : List ℕ) (es : List Entry) (plan : Plan) (ls : List Listed) (l
   by-other = ap (λ x. ofRecords x es) read ∙ rw (le-ltb mostEntries (length es) few)
 
   -- There is one.
-  pub misplaced : (other : ℕ) → placeOf other ≡ otherFrom 1 es → 0 < other
+  pub misplaced : (other : ℕ) → placeNoted other ≡ otherFrom 1 es → 0 < other
       → runSchedule text es ≡ refused Fault.Misplaced other
   misplaced other is some-place = by-other ∙ by other is some-place
     where
-      by : (n : ℕ) → placeOf n ≡ otherFrom 1 es → 0 < n
+      by : (n : ℕ) → placeNoted n ≡ otherFrom 1 es → 0 < n
           → unlessOther (otherFrom 1 es) (runOutcome plan es (λ i. i + 1) (length es)) ≡ refused Fault.Misplaced n
       by zero e l = absurd (omega arith)
       by (suc n) e l = ap (λ q. unlessOther q (runOutcome plan es (λ i. i + 1) (length es))) (sym e)
 
   -- There is none.
-  pub runs : (other : ℕ) → placeOf other ≡ otherFrom 1 es → other ≤ 0
+  pub runs : (other : ℕ) → placeNoted other ≡ otherFrom 1 es → other ≤ 0
       → runOutcome plan es (λ i. i + 1) (length es) ≡ runSchedule text es
   runs other is none-there = sym (by-other ∙ by other is none-there)
     where
-      by : (n : ℕ) → placeOf n ≡ otherFrom 1 es → n ≤ 0
+      by : (n : ℕ) → placeNoted n ≡ otherFrom 1 es → n ≤ 0
           → unlessOther (otherFrom 1 es) (runOutcome plan es (λ i. i + 1) (length es))
           ≡ runOutcome plan es (λ i. i + 1) (length es)
       by zero e l = ap (λ q. unlessOther q (runOutcome plan es (λ i. i + 1) (length es))) (sym e)

@@ -17,7 +17,7 @@ use spec_report::End;
 use step_cells::CELL_PLACES;
 
 // The line of entry i, from 0, of the first n, 0 where there is none.
-fn line_of(entries: &[u32; ENTRY_PLACES], n: usize, i: usize) -> usize
+fn line_in(entries: &[u32; ENTRY_PLACES], n: usize, i: usize) -> usize
     requires { ⌜ n ≤ 4000 ⌝ }
     ensures { λ r. ⌜ r ≡ lineIn (listedIn n (now (entries .entry))) i ⌝ }
 {
@@ -63,7 +63,7 @@ fn run_plan(
         &mut commits,
     );
     let accepted = step_cells::entries(&cells) as usize;
-    let line = line_of(entries, count, accepted);
+    let line = line_in(entries, count, accepted);
     let end = report_ending::end_of(step_cells::halt(&cells), accepted + 1, line, lines);
     report_ending::finish(buffer, plan, &cells, &stat, &store, &commits, end)
 }

@@ -4,8 +4,8 @@ use borrow.Author.Needs.{needs}
 use Rattle.public_messages.proofs.put_refusal.Statement.{statement}
 use Rattle.public_messages.proofs.put_refusal.Tie as tie
 
-put-place-requires : tie.Need-put-place-requires
-put-place-requires c κs = search needs
+put-where-met-requires : tie.Need-put-where-met-requires
+put-where-met-requires c κs = search needs
 
 slice-aggregate-put-bytes : tie.Need-slice-aggregate-put-bytes
 slice-aggregate-put-bytes c = search needs
@@ -39,7 +39,7 @@ returns c =
     let number = colon .before .before .before .before .before in
     let with = number .before .before .before .before in
     let start = with .before .before .before .before .before in
-    then (start .put-place .ensures)
+    then (start .put-where-met .ensures)
     (then (with .put-bytes .ensures)
     (then (number .put-decimal .ensures)
     (then (colon .put-bytes2 .ensures) (then (sentence .put-meaning .ensures) (end .put-byte .ensures)))))
@@ -48,7 +48,7 @@ pub put-refusal-spec : {M : Type 1} → statement M
 put-refusal-spec =
     tie.close
     (tie.spec
-    put-place-requires
+    put-where-met-requires
     slice-aggregate-put-bytes
     put-bytes-requires
     put-decimal-requires

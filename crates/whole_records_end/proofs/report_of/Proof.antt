@@ -10,7 +10,7 @@ use Rattle.spec_report.specs.Outcomes.{endOf}
 use Rattle.step_cells.specs.Tables.{Tables, lent}
 use Rattle.step_cells.specs.Book.{bookOf}
 use Rattle.run_judge.specs.Rulings.{haltOf}
-use Rattle.run_loop.specs.RunReached.{placeOf, Ran}
+use Rattle.run_loop.specs.RunReached.{placeNoted, Ran}
 use Rattle.report_ending.proofs.WrittenOut.{same-outcome, refused-out}
 use Rattle.whole_records_start.specs.BeforeAndAfter.{Accepts, Closing}
 use Rattle.whole_records_end.proofs.ScheduleOutcomes.{
@@ -82,7 +82,7 @@ returns-3 c text es addr old new k =
     let r = ran (o .before) k in
     refused-out _ _ _
     (misplaced text es _ (r .0 .listed) _ (r .0 .read) (few (o .before) k) _
-    (ap placeOf (o .other .ensures) ∙ r .1 .1 .other-is) (c .if2 .taken))
+    (ap placeNoted (o .other .ensures) ∙ r .1 .1 .other-is) (c .if2 .taken))
 
 entries-requires : tie.Need-entries-requires
 entries-requires c κs = search needs

@@ -72,8 +72,8 @@ end-so c =
     let l = c .before .before .before in
     let accepted = l .before .entries .result in
     c .end-of .ensures
-    ∙ ap (λ h. endOf (haltOf h) (accepted + 1) (l .line-of .result) (s .args .lines)) (c .before .halt .ensures)
-    ∙ ap (λ n. endOf (haltOf (bookOf (left (ran-at c)) .halt)) (accepted + 1) n (s .args .lines)) (l .line-of .ensures)
+    ∙ ap (λ h. endOf (haltOf h) (accepted + 1) (l .line-in .result) (s .args .lines)) (c .before .halt .ensures)
+    ∙ ap (λ n. endOf (haltOf (bookOf (left (ran-at c)) .halt)) (accepted + 1) n (s .args .lines)) (l .line-in .ensures)
     ∙ ap (λ n. endOf (haltOf (bookOf (left (ran-at c)) .halt)) (n + 1) (lineIn ls n) (s .args .lines))
     (l .before .entries .ensures)
 
@@ -111,8 +111,8 @@ entries-requires c κs = search needs
 cast-accepted : tie.Need-cast-accepted
 cast-accepted c = search needs
 
-line-of-requires : tie.Need-line-of-requires
-line-of-requires c κs =
+line-in-requires : tie.Need-line-in-requires
+line-in-requires c κs =
     let s = start (opened (listed (c .before .before .before))) in
     few-entries (s .pre .0) (now (s .args .plan)) (now (s .args .entries)) (s .args .count) (s .args .lines) (reads s)
 
@@ -174,7 +174,7 @@ run-plan-spec =
     run-list-requires
     entries-requires
     cast-accepted
-    line-of-requires
+    line-in-requires
     halt-requires
     add-end-of
     end-of-requires

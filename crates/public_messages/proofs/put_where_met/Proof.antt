@@ -1,10 +1,10 @@
--- `put_place` writes nothing for line 0, and else its parts one behind the other. Assumes nothing.
+-- `put_where_met` writes nothing for line 0, and else its parts one behind the other. Assumes nothing.
 use native.Mathlib.Omega.{arith}
 use borrow.Author.Tests.{eq-eqb, ne-eqb}
 use Rattle.report_bytes.proofs.Writes.{nothing, then, widen}
 use borrow.Author.Needs.{needs}
-use Rattle.public_messages.proofs.put_place.Statement.{statement}
-use Rattle.public_messages.proofs.put_place.Tie as tie
+use Rattle.public_messages.proofs.put_where_met.Statement.{statement}
+use Rattle.public_messages.proofs.put_where_met.Tie as tie
 
 returns : tie.Need-returns
 returns c = rw (eq-eqb _ 0 (c .if1 .taken)) (widen 35 (omega arith) (nothing _ _))
@@ -41,8 +41,8 @@ returns-2 c =
     (then (start .put-bytes .ensures)
     (then (line .put-decimal .ensures) (then (entry .put-entry .ensures) (end .put-bytes2 .ensures))))
 
-pub put-place-spec : {M : Type 1} → statement M
-put-place-spec =
+pub put-where-met-spec : {M : Type 1} → statement M
+put-where-met-spec =
     tie.close
     (tie.spec
     returns

@@ -1,11 +1,11 @@
--- `line_of` meets its contract. Assumes nothing.
+-- `line_in` meets its contract. Assumes nothing.
 use mathlib.Core.Path.{sym, _∙_}
 use native.Mathlib.Omega.{arith}
 use denote.Ref.{now}
 use Rattle.whole_text.proofs.AcceptedText.{line-there, line-past}
 use borrow.Author.Needs.{needs}
-use Rattle.whole_text.proofs.line_of.Statement.{statement}
-use Rattle.whole_text.proofs.line_of.Tie as tie
+use Rattle.whole_text.proofs.line_in.Statement.{statement}
+use Rattle.whole_text.proofs.line_in.Tie as tie
 
 line-at-requires : tie.Need-line-at-requires
 line-at-requires c κs = search needs
@@ -20,5 +20,5 @@ returns-2 c =
     let a = c .before .args in
     sym (line-past (a .n) (a .i) (now (a .entries)) (omega (arith, c .if1 .left)))
 
-pub line-of-spec : {M : Type 1} → statement M
-line-of-spec = tie.close (tie.spec line-at-requires returns returns-2)
+pub line-in-spec : {M : Type 1} → statement M
+line-in-spec = tie.close (tie.spec line-at-requires returns returns-2)
