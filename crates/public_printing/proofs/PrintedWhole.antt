@@ -20,7 +20,17 @@ use Rattle.spec_machine.specs.History.{runOf}
 use Rattle.spec_machine.proofs.EveryRun.{always}
 use Rattle.spec_report.specs.declared.End.{End}
 use Rattle.spec_report.specs.Report.{endNumber, endLine, endEntry, reportEnd}
-use Rattle.spec_report.specs.Outcomes.{RunOutcome, refused, reported, endWith, handed, left, ofReading, runText, printed}
+use Rattle.spec_report.specs.Outcomes.{
+  RunOutcome,
+  refused,
+  reported,
+  endWith,
+  handed,
+  left,
+  ofReading,
+  runText,
+  printed,
+}
 use Rattle.spec_report.proofs.Ends.{end-low, entry-low}
 use Rattle.spec_report_length.specs.Longest.{longestEnd, longestReport}
 use Rattle.spec_report_length.proofs.LineLengths.{end-number, end-short}

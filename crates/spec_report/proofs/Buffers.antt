@@ -166,7 +166,7 @@ rows =
     ∷ untouched (runText (oneJob 1 5 (bytes "step\t1\n"))) 15 0
     ∷ untouched (runText (oneJob 1 5 (bytes "step\t0\n"))) 15 0
     ∷ record { outcome = runText []; room = 0; number = 3; line = 1; entry = 0; handed = ""; left = "" }
-    -- records: 5 and 3 by place, an entry line in the plan's text, a refused entry by place, acceptance with their count
+    -- records: 5 and 3 by place, an entry line in the plan's text, a refused entry by place, acceptance by their count
     ∷ untouched (runSchedule (oneJob 1 5 []) (replicate 4001 (entry 2 0 0))) 5 4001
     ∷ untouched (runSchedule (oneJob 1 5 []) (entry 1 0 0 ∷ entry 2 0 0 ∷ [])) 3 2
     ∷ untouched (runSchedule (oneJob 1 5 (bytes "step\t0\n")) (entry 2 0 0 ∷ [])) 3 4

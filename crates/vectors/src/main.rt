@@ -1,7 +1,7 @@
 // The runner over the packs of cases in data/. It checks and runs the text of each case of the kind `run`, runs the
 // plan's text of each case of the kind `schedule` with its records, and writes where the check's answer or the run's
-// output is not what the case says, and for each pack how many cases agree. A text that is lent room for every report is
-// also run as the program `point_memory` runs it, and what is to be printed compared.
+// output is not what the case says, and for each pack how many cases agree. A text that is lent room for every report
+// is also run as the program `point_memory` runs it, and what is to be printed compared.
 //
 // A pack is case after case: the line `case NAME KIND ROOM INLEN RECLEN OUTLEN`, its words parted by one space, then
 // INLEN bytes of text, RECLEN bytes of records and OUTLEN bytes of what must come out. ROOM is the length of the buffer
