@@ -1,7 +1,7 @@
-//! Document 01 in plain Rust: the text's check (numbers 1 to 10), the machine (the step list A1 to H42, refusals 11 to
-//! 14), the report (refusal 15), and the run of a schedule of records beside a plan's text. It is an independent
-//! implementation, written from the document alone; the proved one is compared with it, in its answers and in its time.
-//! It also counts the late stores of a run. Nothing here is proved.
+//! Document 01 with document 02's runs of steps in plain Rust: the text's check (numbers 1 to 10 and 16), the machine
+//! (the step list A1 to H42, refusals 11 to 14), the report (refusal 15), and the run of a schedule of records beside a
+//! plan's text. It is an independent implementation, written from the documents alone; the proved one is compared with
+//! it, in its answers and in its time. It also counts the late stores of a run. Nothing here is proved.
 
 /// The most cards, jobs, blocks, words of a block, and blocks that one update may write.
 const CARDS: usize = 8;
@@ -10,7 +10,7 @@ const BLOCKS: usize = 16;
 const WORDS: usize = 16;
 const WRITES: usize = 8;
 
-/// The most entries, in a text or as records.
+/// The most entries, in a text or as records, and the most steps of one line.
 const ENTRIES: usize = 4_000;
 
 /// What a check answers: a number of the table and its line. These three structs are laid out as the C header has them.
@@ -105,12 +105,13 @@ fn refused(number: usize, line: usize) -> (Ended, Late) {
     (Ended { number, line, length: 0 }, Late::default())
 }
 
-/// Runs entries up to the first refused one and writes the report. The first entry's line is one past `before`.
+/// Runs entries, each with a line of its own, up to the first refused one and writes the report. The first line is one
+/// past `before`.
 fn run_entries(plan: &Plan, before: usize, entries: &[Entry], buffer: &mut [u8]) -> (Ended, Late) {
     let mut machine = Machine::new(plan);
     let (mut number, mut line) = (0, before + entries.len());
     for (index, &entry) in entries.iter().enumerate() {
-        if let Err(refusal) = machine.entry(plan, entry, index + 1) {
+        if let Err(refusal) = machine.entry(plan, entry) {
             (number, line) = (refusal, before + index + 1);
             break;
         }
@@ -131,15 +132,18 @@ struct Word { block: usize, offset: usize }
 #[derive(Clone, Copy)]
 struct Move { reads: bool, from: Word, to: Word, plus: u32 }
 
-/// An entry of the schedule.
+/// A line of the schedule, or a record: a call, or so many single steps of a card.
 #[derive(Clone, Copy)]
-pub enum Entry { Call { job: usize, update: usize }, Step { card: usize } }
+pub enum Entry { Call { job: usize, update: usize }, Steps { card: usize, count: usize } }
 
 impl Entry {
     /// The entry of a record of kind 0 or 1.
     pub fn of(record: &Record) -> Entry {
         let (first, second) = (record.first as usize, record.second as usize);
-        if record.kind == 0 { Entry::Call { job: first, update: second } } else { Entry::Step { card: first } }
+        match record.kind {
+            0 => Entry::Call { job: first, update: second },
+            _ => Entry::Steps { card: first, count: 1 },
+        }
     }
 }
 
@@ -158,9 +162,9 @@ pub struct Plan {
 #[derive(Clone, Copy, PartialEq, PartialOrd)]
 enum Stage { Plan, Jobs, Blocks, Updates, Moves, Entries }
 
-/// The plan so far, how far the text is read, a bit for each block that the latest update writes, and whether entries
-/// can stand in this text.
-struct Reader { plan: Plan, stage: Stage, written: u32, with_entries: bool }
+/// The plan so far, how far the text is read, a bit for each block that the latest update writes, whether entries can
+/// stand in this text, and how many more of them, a run counted by its steps.
+struct Reader { plan: Plan, stage: Stage, written: u32, with_entries: bool, left: usize }
 
 /// Refuses with the given number where the condition does not hold.
 fn demand(condition: bool, number: usize) -> Result<(), usize> {
@@ -187,7 +191,7 @@ fn numbers<'a, const K: usize>(mut fields: impl Iterator<Item = &'a [u8]>) -> Re
 /// Reads a whole text, with or without entries: the plan, or the number of its first fault and the line.
 pub fn read(text: &[u8], with_entries: bool) -> Result<Plan, (usize, usize)> {
     if text.len() > 65_536 { return Err((1, 0)); }
-    let mut reader = Reader { plan: Plan::default(), stage: Stage::Plan, written: 0, with_entries };
+    let mut reader = Reader { plan: Plan::default(), stage: Stage::Plan, written: 0, with_entries, left: ENTRIES };
     for line in text.split_inclusive(|&byte| byte == b'\n') {
         reader.plan.lines += 1;
         reader.line(line).map_err(|number| (number, reader.plan.lines))?;
@@ -215,9 +219,9 @@ impl Reader {
             (b"set", Stage::Moves) => numbers(fields).and_then(|[d, k]| self.move_line(d, None, k)),
             (b"add", Stage::Moves) => numbers(fields).and_then(|[d, a, k]| self.move_line(d, Some(a), k)),
             (b"call", Stage::Updates | Stage::Moves | Stage::Entries) if self.with_entries =>
-                numbers(fields).and_then(|[job, update]| self.entry_line(Entry::Call { job, update })),
+                numbers(fields).and_then(|[job, update]| self.entry_line(Entry::Call { job, update }, 1)),
             (b"step", Stage::Updates | Stage::Moves | Stage::Entries) if self.with_entries =>
-                numbers(fields).and_then(|[card]| self.entry_line(Entry::Step { card })),
+                self.step_line(fields),
             (b"plan" | b"job" | b"block" | b"update" | b"copy" | b"set" | b"add" | b"call" | b"step", _) => Err(3),
             _ => Err(2),
         }
@@ -266,9 +270,18 @@ impl Reader {
         Ok(())
     }
 
-    /// An entry; its numbers are judged when it runs.
-    fn entry_line(&mut self, entry: Entry) -> Result<(), usize> {
-        demand(self.plan.entries.len() < ENTRIES, 5)?;
+    /// A line `step card` or `step card n`.
+    fn step_line<'a>(&mut self, mut fields: impl Iterator<Item = &'a [u8]>) -> Result<(), usize> {
+        let card = fields.next().and_then(number).ok_or(4usize)? as usize;
+        let count = fields.next().map_or(Some(1), number).ok_or(4usize)? as usize;
+        demand(fields.next().is_none(), 4)?;
+        demand(1 <= count && count <= ENTRIES, 16)?;
+        self.entry_line(Entry::Steps { card, count }, count)
+    }
+
+    /// A line that counts as so many entries; who is called or stepped is judged when it runs.
+    fn entry_line(&mut self, entry: Entry, count: usize) -> Result<(), usize> {
+        self.left = self.left.checked_sub(count).ok_or(5usize)?;
         self.plan.entries.push(entry);
         self.stage = Stage::Entries;
         Ok(())
@@ -353,6 +366,7 @@ pub struct Machine {
     store: Vec<u32>,
     jobs: Vec<Job>,
     running: [usize; CARDS], // the active job of highest priority on each card, or N
+    entries: usize, // how many have run, a run counted by its steps
     commits: Vec<[usize; 3]>, // the entry, the job, and the update of the job's call
     late: Late,
 }
@@ -385,8 +399,8 @@ impl Machine {
         self.running[card] < self.jobs.len()
     }
 
-    /// Runs one entry, or refuses it with the state unchanged.
-    pub fn entry(&mut self, plan: &Plan, entry: Entry, place: usize) -> Result<(), usize> {
+    /// Runs a call or the steps of a card; the first that is refused leaves the state as those before it left it.
+    pub fn entry(&mut self, plan: &Plan, entry: Entry) -> Result<(), usize> {
         match entry {
             Entry::Call { job: p, update } => {
                 demand(p < self.jobs.len() && update < plan.updates.len(), 11)?;
@@ -395,11 +409,16 @@ impl Machine {
                 (job.active, job.called, job.place) = (true, update, Place::A1);
                 let card = job.card;
                 self.running[card] = self.first_on(card);
+                self.entries += 1;
             }
-            Entry::Step { card } => {
+            Entry::Steps { card, count } => {
                 demand(card < plan.cards, 13)?;
-                demand(self.has_active(card), 14)?;
-                self.step(plan, card, place);
+                let last = self.entries + count;
+                while self.entries < last {
+                    demand(self.has_active(card), 14)?;
+                    self.entries += 1;
+                    self.step(plan, card);
+                }
             }
         }
         Ok(())
@@ -412,7 +431,7 @@ impl Machine {
     }
 
     /// One item of the step list, for the running job p of the card.
-    fn step(&mut self, plan: &Plan, card: usize, entry: usize) {
+    fn step(&mut self, plan: &Plan, card: usize) {
         use self::{Place::*, Status::*};
         let none = plan.jobs.len();
         let p = self.running[card];
@@ -527,7 +546,7 @@ impl Machine {
                     self.late.h42_status += 1;
                 } else {
                     self.stat[hid] = Nothing;
-                    self.commits.push([entry, hid, self.jobs[hid].called]);
+                    self.commits.push([self.entries, hid, self.jobs[hid].called]);
                 }
                 A10
             }

@@ -1,5 +1,6 @@
-//! The cases of the comparison: sound plans of all sizes with schedules in which cards are delayed, entries that are
-//! refused, damaged texts, and texts and schedules about the greatest length. All of it comes from one seed a case.
+//! The cases of the comparison: sound plans of all sizes with schedules in which cards are delayed, steps joined into
+//! runs, entries that are refused, damaged texts, and texts and schedules about the greatest length. All of it comes
+//! from one seed a case.
 
 use crate::plain::{self, Entry, Machine, Plan, Record};
 
@@ -156,11 +157,32 @@ fn step(random: &mut Random, card: usize) -> Record {
     Record { kind: 1, first: card as u32, second: random.next() as u32 }
 }
 
-/// An entry record as a line.
-fn entry_line(record: &Record) -> String {
-    match record.kind {
-        0 => line("call", &[record.first, record.second]),
-        _ => line("step", &[record.first]),
+/// Entry records as lines. Steps of one card that follow each other are joined into runs: none of them, some at a time,
+/// or as many as can be. A run of one has its count at times.
+fn entry_lines(random: &mut Random, records: &[Record]) -> Vec<String> {
+    let (least, most) = random.of(&[(1, 1), (1, 1), (1, 3), (1, 40), (4_000, 4_000)]);
+    let mut lines = Vec::with_capacity(records.len());
+    let mut rest = records;
+    while let Some(&Record { kind, first, second }) = rest.first() {
+        let same = rest.iter().take_while(|record| record.kind == 1 && record.first == first).count();
+        let joined = random.between(least.min(same), most.min(same)).max(1);
+        lines.push(match kind {
+            0 => line("call", &[first, second]),
+            _ if joined > 1 || most > 1 && random.one_in(8) => line("step", &[first, joined as u32]),
+            _ => line("step", &[first]),
+        });
+        rest = &rest[joined..];
+    }
+    lines
+}
+
+/// How many entries a line counts as.
+fn entries_in(line: &str) -> usize {
+    let mut fields = line.split('\t');
+    match fields.next() {
+        Some("step") => fields.nth(1).and_then(|count| count.parse().ok()).unwrap_or(1),
+        Some("call") => 1,
+        _ => 0,
     }
 }
 
@@ -192,7 +214,7 @@ impl<'a> Scheduler<'a> {
             delayed: [0; 8],
             latest: 0,
             calls: random.of(&[2, 8, 30]),
-            turns: random.of(&[1, 3, 20]),
+            turns: random.of(&[1, 3, 20, 300]),
             delays: random.of(&[10, 30, 100]),
             longest: random.of(&[10, 80, 300]),
         }
@@ -222,6 +244,8 @@ impl<'a> Scheduler<'a> {
                 let card = beyond(random, self.sizes.cards);
                 Some(step(random, card))
             }
+            // At times behind steps of the same card.
+            _ if random.one_in(2) && !self.machine.has_active(self.latest) => Some(step(random, self.latest)),
             _ => self.card(random, false, true).map(|card| step(random, card)),
         }
     }
@@ -268,7 +292,7 @@ impl<'a> Scheduler<'a> {
             }
             let Some(record) = self.accepted(random) else { break };
             records.push(record);
-            let taken = self.machine.entry(self.plan, Entry::of(&record), records.len());
+            let taken = self.machine.entry(self.plan, Entry::of(&record));
             assert!(taken.is_ok(), "an entry made to be accepted is refused");
         }
         records
@@ -289,9 +313,9 @@ fn entry_count(random: &mut Random) -> usize {
 }
 
 /// Fields that are awkward as numbers.
-const FIELDS: [&str; 28] = [
-    "", "0", "1", "2", "7", "8", "9", "15", "16", "17", "32", "255", "256", "257", "4294967295", "4294967296",
-    "42949672950", "18446744073709551616", "00", "01", "-1", "+1", " 1", "1 ", "1\r", "1\0", "x", "1x",
+const FIELDS: [&str; 31] = [
+    "", "0", "1", "2", "7", "8", "9", "15", "16", "17", "32", "255", "256", "257", "3999", "4000", "4001", "4294967295",
+    "4294967296", "42949672950", "18446744073709551616", "00", "01", "-1", "+1", " 1", "1 ", "1\r", "1\0", "x", "1x",
 ];
 
 /// The kinds, and fields that are none.
@@ -325,9 +349,13 @@ fn damage_lines(random: &mut Random, sizes: &Sizes, lines: &mut Vec<String>, pla
         return;
     }
     let plan = plan.min(lines.len());
-    // The 4,001st entry or the last line, any line, or one of the plan's.
+    // The line of the 4,001st entry or the last line, any line, or one of the plan's.
     let at = match random.below(8) {
-        0 => (plan + 4_000).min(lines.len() - 1),
+        0 => {
+            let mut entries = 0usize;
+            let passes = |line: &String| { entries = entries.saturating_add(entries_in(line)); entries > 4_000 };
+            lines.iter().position(passes).unwrap_or(lines.len() - 1)
+        }
         1..=3 => random.below(lines.len()),
         _ => random.below(plan.max(1)),
     };
@@ -399,6 +427,23 @@ fn is_move(line: &str) -> bool {
     ["copy\t", "set\t", "add\t"].iter().any(|kind| line.starts_with(kind))
 }
 
+/// Puts in a run of steps, mostly among the entries or behind them. Its count is awkward by itself or for what is left
+/// of 4,000 entries, or it is one that can well be, often more than the card's jobs need.
+fn put_run(random: &mut Random, sizes: &Sizes, lines: &mut Vec<String>, plan: usize) {
+    let left = 4_000usize.saturating_sub(lines.iter().map(|line| entries_in(line)).sum());
+    let most = random.of(&[10, 100, 1_000]);
+    let count = match random.below(8) {
+        0..=2 => random.of(&["0", "1", "4000", "4001", "4294967295", "4294967296", "1\t1", "0\t"]).to_string(),
+        3 => random.of(&FIELDS).to_string(),
+        4 | 5 => random.of(&[left.saturating_sub(1), left, left + 1]).to_string(),
+        _ => random.between(1, most).to_string(),
+    };
+    let card = if random.one_in(8) { beyond(random, sizes.cards) } else { random.below(sizes.cards) };
+    let first = random.of(&[0, plan, plan, plan, plan, lines.len(), lines.len()]);
+    let at = random.between(first, lines.len());
+    lines.insert(at, format!("step\t{card}\t{count}"));
+}
+
 /// Does one damage to the bytes of a text.
 fn damage_bytes(random: &mut Random, text: &mut Vec<u8>) {
     if text.is_empty() {
@@ -442,7 +487,12 @@ pub fn case(random: &mut Random) -> Case {
     let as_records = random.one_in(2);
     let plan_length = lines.len();
     if !as_records || random.one_in(40) {
-        lines.extend(records.iter().map(entry_line));
+        lines.extend(entry_lines(random, &records));
+    }
+    if random.one_in(if as_records { 40 } else { 6 }) {
+        for _ in 0..random.of(&[1, 1, 2]) {
+            put_run(random, &sizes, &mut lines, plan_length);
+        }
     }
     let damages = if random.one_in(3) { random.of(&[1, 1, 1, 2, 3]) } else { 0 };
     for _ in 0..damages {

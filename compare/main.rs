@@ -7,9 +7,9 @@
 // A case is a text, or a plan's text and records, with a lent buffer of some room. Both checks are asked of the text,
 // and it is run; the answers have to be the same, and so has every byte of the buffer and beside it. The cases are
 // shared by two threads, whose stacks are as long as include/point_memory.h asks for. Printed are the counts of cases
-// and differences, and how often each number and each late store was met. The status is 1 where something differs or
-// was hardly met. The first case that differs is then in target/difference.txt, and `target/compare NUMBER` runs it
-// alone.
+// and differences, and how often runs of steps, each number and each late store were met. The status is 1 where
+// something differs or was hardly met. The first case that differs is then in target/difference.txt, and
+// `target/compare NUMBER` runs it alone.
 
 mod cases;
 #[path = "../bench/library.rs"]
@@ -28,8 +28,9 @@ const THREADS: u64 = 2;
 /// The stack of each thread.
 const STACK: usize = 256 * 1024;
 
-/// In how many cases each number and each late store has to be met.
+/// In how many cases each number and each late store has to be met, and in how many runs of steps and their 16.
 const OFTEN: usize = 100;
+const RUNS_OFTEN: usize = 500;
 
 /// The length of a buffer that is enough for every report, and the bytes kept on both sides of a lent one.
 const ROOM: usize = 80_000;
@@ -60,7 +61,8 @@ fn late_counts(late: Late) -> [usize; 7] {
 struct Tally {
     texts: usize,
     schedules: usize,
-    numbers: [[usize; 16]; 4],
+    numbers: [[usize; 17]; 4],
+    runs: [usize; 2], // accepted texts with a run of steps, and texts with 14 in a run
     late: [usize; 7],
     late_cases: [usize; 7],
     differences: usize,
@@ -75,17 +77,21 @@ impl Tally {
         for (numbers, others) in self.numbers.iter_mut().zip(&other.numbers) {
             add_all(numbers, others);
         }
+        add_all(&mut self.runs, &other.runs);
         add_all(&mut self.late, &other.late);
         add_all(&mut self.late_cases, &other.late_cases);
         self.differences += other.differences;
         self.first = self.first.take().into_iter().chain(other.first).min_by_key(|first| first.0);
     }
 
-    /// Whether each number and each late store was met often.
+    /// Whether runs of steps, each number and each late store were met often. A plan's text has no runs, so that
+    /// nothing beside it is refused with 16.
     fn is_enough(&self) -> bool {
         let [check, check_plan, run, schedule] = &self.numbers;
         let checks = check[..11].iter().chain(&check_plan[..11]);
-        checks.chain(run).chain(schedule).chain(&self.late_cases).all(|&met| met >= OFTEN)
+        let numbers = checks.chain(&run[..16]).chain(&schedule[..16]);
+        numbers.chain(&self.late_cases).all(|&met| met >= OFTEN)
+            && self.runs.iter().chain([&check[16], &run[16]]).all(|&met| met >= RUNS_OFTEN)
     }
 
     /// Prints everything.
@@ -93,9 +99,10 @@ impl Tally {
         let cases = self.texts + self.schedules;
         println!("{cases} cases: {} texts, {} schedules of records", self.texts, self.schedules);
         println!("{} differences", self.differences);
+        println!("{} accepted texts with runs of steps, {} texts with 14 in a run", self.runs[0], self.runs[1]);
         println!();
         println!("{:10} {:>12} {:>12} {:>12} {:>12}", "number", "check", "check_plan", "run", "run_schedule");
-        for number in 0..16 {
+        for number in 0..17 {
             let [check, check_plan, run, schedule] = [0, 1, 2, 3].map(|function| self.numbers[function][number]);
             println!("{number:<10} {check:>12} {check_plan:>12} {run:>12} {schedule:>12}");
         }
@@ -112,6 +119,11 @@ fn add_all(counts: &mut [usize], others: &[usize]) {
     for (count, other) in counts.iter_mut().zip(others) {
         *count += other;
     }
+}
+
+/// Whether a line is a run of steps.
+fn is_run(line: &[u8]) -> bool {
+    line.starts_with(b"step\t") && line.iter().filter(|&&byte| byte == b'\t').count() == 2
 }
 
 /// The room to lend for a report of a length: none, too little, exactly as much, or more.
@@ -189,6 +201,12 @@ fn compare(number: u64, ample: &mut [u8], tally: &mut Tally) {
         tally.first.get_or_insert_with(|| (number, difference(number, &case, &plain, &library)));
     }
 
+    let mut lines = text.split(|&byte| byte == b'\n');
+    match ended.number {
+        0 => tally.runs[0] += usize::from(lines.any(is_run)),
+        14 if function == 2 => tally.runs[1] += usize::from(lines.nth(ended.line - 1).is_some_and(is_run)),
+        _ => (),
+    }
     tally.texts += usize::from(case.records.is_none());
     tally.schedules += usize::from(case.records.is_some());
     tally.numbers[0][plain.checks[0].number] += 1;
@@ -225,7 +243,7 @@ fn main() {
     tally.print();
     let enough = alone.is_some() || tally.is_enough();
     if !enough {
-        println!("\nA number or a late store was met in fewer than {OFTEN} cases.");
+        println!("\nA number or a late store was met in fewer than {OFTEN} cases, or runs in fewer than {RUNS_OFTEN}.");
     }
     if let Some((number, how)) = &tally.first {
         println!("\nCase {number} differs: see target/difference.txt.");

@@ -2,8 +2,8 @@
 under the item's label. It is an example to read and to replace by your own; compare.py holds it against the proved
 library after each entry.
 
-It takes the text to be an accepted one. The library refuses bad texts (1 to 10 of the table), and compare.py asks it
-first. As a program the model runs the text on standard input and prints the report; from the project's root:
+It takes the text to be an accepted one. The library refuses bad texts (1 to 10 and 16 of the table), and compare.py
+asks it first. As a program the model runs the text on standard input and prints the report; from the project's root:
 
     python3 examples/card_model.py < examples/three-cards.txt
 
@@ -49,9 +49,17 @@ class Plan:
 
 
 def entries_of(text):
-    """The entries of an accepted text in order: ("call", job, update) or ("step", card)."""
-    fields = (line.split("\t") for line in text.splitlines())
-    return [(kind, *map(int, numbers)) for kind, *numbers in fields if kind in ("call", "step")]
+    """The single entries of an accepted text in order, ("call", job, update) or ("step", card), each with the number of
+    its line: a list of (line, entry). A line `step card n` is n entries `step card`."""
+    entries = []
+    for line, words in enumerate(text.splitlines(), start=1):
+        kind, *numbers = words.split("\t")
+        if kind == "call":
+            entries.append((line, (kind, *map(int, numbers))))
+        elif kind == "step":
+            card, n = (*map(int, numbers), 1)[:2]  # without a count it is one step
+            entries += [(line, (kind, card))] * n
+    return entries
 
 
 class Job:
@@ -330,15 +338,14 @@ def main():
     if sys.argv[1:] and sys.argv[1:] not in [[mistake] for mistake in MISTAKES]:
         sys.exit("card_model.py: the only argument is the name of a mistake: " + ", ".join(MISTAKES))
     text = sys.stdin.read()
-    model, entries = CardModel(Plan(text), *sys.argv[1:]), entries_of(text)
-    line = text.count("\n") - len(entries)
-    number = 0
-    for entry in entries:
-        line += 1
+    model = CardModel(Plan(text), *sys.argv[1:])
+    number, end = 0, text.count("\n")
+    for line, entry in entries_of(text):
         number = model.entry(*entry)
         if number != 0:
+            end = line
             break
-    print(*model.report(), f"end\t{number}\t{line}", sep="\n")
+    print(*model.report(), f"end\t{number}\t{end}", sep="\n")
 
 
 if __name__ == "__main__":

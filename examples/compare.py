@@ -16,9 +16,10 @@ The first compares the model in card_model.py, the second that model with a deli
 command of your own: it reads a text on standard input and prints the report, as document 01 says, and is run on the
 plan with the first n entries for each n. To compare a model in Python, put your class in the place of CardModel below.
 
-For n = 0, 1, 2, .. the library is handed the plan's lines and the first n entries as records, and its answer is held
-against the model's after the same n entries. A report shows the commits, the memory and the status of the active jobs.
-So the entry named is the first at which a departure is seen; its cause can lie in an earlier one.
+Entries are single ones: a line `step card n` is n of them. For n = 0, 1, 2, .. the library is handed the plan's lines
+and the first n entries as records, and its answer is held against the model's after the same n entries. A report shows
+the commits, the memory and the status of the active jobs. So the entry named is the first at which a departure is seen;
+its cause can lie in an earlier one.
 
 The status is 0 when they agree after every entry, 1 when they part, 2 when there is nothing to compare: wrong words on
 the command line, a file that cannot be read, a text that the check refuses, or a command that prints no report.
@@ -77,18 +78,46 @@ def load_library(path):
     return library
 
 
-# A report is compared as a list of lines, the last of them `end number place`, as the library prints it for records:
-# the place is n where all n entries are accepted, else that of the refused entry, counted from 1. For a text the last
-# line is `end number line`, and the line is the place plus the count of the plan's lines. That count is taken off a
-# command's line; then the two are comparable, and nothing of a report is left out.
+class Schedule:
+    """The lines of an accepted text, its single entries, and where they stand."""
+
+    def __init__(self, text):
+        self.lines = text.splitlines(keepends=True)
+        numbered = entries_of(text.decode())
+        self.entries = [entry for _, entry in numbered]
+        entry_lines = [line for line, _ in numbered]
+        plan_length = entry_lines[0] - 1 if entry_lines else len(self.lines)
+        self.plan_text = b"".join(self.lines[:plan_length])
+        self.line_of = [plan_length] + entry_lines  # the line of each entry, counted from 1; first the plan's last line
+
+    def cut_after(self, n):
+        """The text up to entry n. Where that entry is a step of a run, the run is cut to its steps up to it."""
+        *before, last = self.lines[: self.line_of[n]]
+        kind, *numbers = last.split(b"\t")
+        if kind == b"step" and len(numbers) == 2:
+            last = b"step\t%s\t%d\n" % (numbers[0], self.line_of[: n + 1].count(self.line_of[n]))
+        return b"".join(before) + last
+
+    def name(self, n):
+        """Entry n by its number, its line and the words of the line."""
+        if n == 0:
+            return "the opening, before any entry"
+        line = self.line_of[n]
+        return f"entry {n}, line {line} of the text: {' '.join(self.lines[line - 1].decode().split())}"
 
 
-def end_line(number, place):
-    return f"end\t{number}\t{place}"
+# A report is compared as a list of lines, the last of them `end number line`, as it is for the text up to entry n: the
+# line is that of entry n where all n are accepted, else that of the refused entry. The library and a model in Python
+# count entries, and line_of gives their line; a command is run on that text. So nothing of a report is left out.
 
 
-def library_reports(library, plan_text, entries):
+def end_line(number, line):
+    return f"end\t{number}\t{line}"
+
+
+def library_reports(library, schedule):
     """The library's report after 0, 1, 2, .. entries."""
+    plan_text, entries = schedule.plan_text, schedule.entries
     records = (Record * (len(entries) + 1))()  # one more, so that there is an address also without any entry
     for record, (kind, *numbers) in zip(records, entries):
         record.kind, record.first, record.second = KINDS[kind], *numbers, *[0] * (2 - len(numbers))
@@ -96,20 +125,20 @@ def library_reports(library, plan_text, entries):
     for n in range(len(entries) + 1):
         ended = library.point_memory_run_schedule(plan_text, len(plan_text), records, n, buffer, REPORT_ROOM)
         *lines, _ = buffer[: ended.length].decode().splitlines()
-        yield lines + [end_line(ended.number, ended.line)]
+        yield lines + [end_line(ended.number, schedule.line_of[ended.line])]
 
 
-def model_reports(model, entries):
+def model_reports(model, schedule):
     """The report of a model in Python after 0, 1, 2, .. entries. Two methods of it are used: entry, with the words of
     one entry, gives 0 or a refusal from 11 to 14; report gives the present report's lines without `end`. The first
     refusal stops the run."""
     number = place = 0
-    yield model.report() + [end_line(number, place)]
-    for entry in entries:
+    yield model.report() + [end_line(number, schedule.line_of[place])]
+    for entry in schedule.entries:
         if number == 0:
             number = model.entry(*entry)
             place += 1
-        yield model.report() + [end_line(number, place)]
+        yield model.report() + [end_line(number, schedule.line_of[place])]
 
 
 def command(words):
@@ -119,44 +148,39 @@ def command(words):
     return shlex.split(words)
 
 
-def command_reports(words, plan_lines, entry_lines):
-    """The report of a command after 0, 1, 2, .. entries: it is run anew on the plan's lines and the first n others."""
-    for n in range(len(entry_lines) + 1):
-        text = b"".join(plan_lines + entry_lines[:n])
+def command_reports(words, schedule):
+    """The report of a command after 0, 1, 2, .. entries: it is run anew on the text up to entry n."""
+    for n in range(len(schedule.entries) + 1):
         try:
-            run = subprocess.run(words, input=text, stdout=subprocess.PIPE, timeout=60)
+            run = subprocess.run(words, input=schedule.cut_after(n), stdout=subprocess.PIPE, timeout=60)
         except (OSError, subprocess.TimeoutExpired) as error:
             raise Trouble(f"the command cannot be run on the plan and its first {n} entries. {error}")
         output = run.stdout.decode("latin-1")
-        whole = re.fullmatch(r"((?:[^\n]*\n)*)end\t(0|[1-9][0-9]*)\t(0|[1-9][0-9]*)\n", output)
-        if whole is None:
+        if re.fullmatch(r"(?:[^\n]*\n)*end\t(?:0|[1-9][0-9]*)\t(?:0|[1-9][0-9]*)\n", output) is None:
             raise Trouble(
                 f"the command prints no report for the plan and its first {n} entries: its last line is not `end`, a "
                 f"number and a line, parted by tabs and ended by a line feed. Its status is {run.returncode}."
             )
-        number, line = int(whole[2]), int(whole[3])
-        is_run = number == 0 or 11 <= number <= 14  # 1 to 10 and 15 have no entry's line
-        yield whole[1].split("\n")[:-1] + [end_line(number, line - len(plan_lines) if is_run else line)]
+        yield output.split("\n")[:-1]
 
 
-def compare(name, expected_reports, seen_reports, plan_lines, entry_lines):
+def compare(name, expected_reports, seen_reports, schedule):
     """Compares two rows of reports and prints where they part, or that they agree; answers whether they agree."""
+    accepted = 0
     for n, (expected, seen) in enumerate(zip(expected_reports, seen_reports)):
         for in_library, in_model in itertools.zip_longest(expected, seen):
             if in_library != in_model:
-                where = "the opening, before any entry"
-                if n > 0:
-                    words = " ".join(entry_lines[n - 1].decode().split())
-                    where = f"entry {n}, line {len(plan_lines) + n} of the text: {words}"
-                print(f"The library and the {name} part at {where}")
+                print(f"The library and the {name} part at {schedule.name(n)}")
                 print("The first line in which their reports differ there, with \\t for a tab:")
                 print(f"  {'library:':9}{ascii(in_library)}")
                 print(f"  {name + ':':9}{ascii(in_model)}")
                 return False
-    print(f"The library and the {name} agree at the opening and after each of {len(entry_lines)} entries.")
-    _, number, place = expected[-1].split("\t")
+        _, number, _ = expected[-1].split("\t")
+        if number == "0":
+            accepted = n
+    print(f"The library and the {name} agree at the opening and after each of {len(schedule.entries)} entries.")
     if number != "0":
-        print(f"Both refuse entry {place} with {number}, so that the entries behind it do not run.")
+        print(f"Both refuse entry {accepted + 1} with {number}, so that the entries behind it do not run.")
     return True
 
 
@@ -178,16 +202,13 @@ def main():
         if answer.number != 0:
             raise Trouble(f"the check refuses the text with {answer.number}, line {answer.line}.")
 
-        entries = entries_of(text.decode())
-        lines = text.splitlines(keepends=True)
-        plan_lines, entry_lines = lines[: len(lines) - len(entries)], lines[len(lines) - len(entries) :]
-        plan_text = b"".join(plan_lines)
+        schedule = Schedule(text)
         if words.command is not None:
-            name, seen = "command", command_reports(words.command, plan_lines, entry_lines)
+            name, seen = "command", command_reports(words.command, schedule)
         else:
-            name, seen = "model", model_reports(CardModel(Plan(plan_text.decode()), words.mistake), entries)
-        expected = library_reports(library, plan_text, entries)
-        return 0 if compare(name, expected, seen, plan_lines, entry_lines) else 1
+            model = CardModel(Plan(schedule.plan_text.decode()), words.mistake)
+            name, seen = "model", model_reports(model, schedule)
+        return 0 if compare(name, library_reports(library, schedule), seen, schedule) else 1
     except Trouble as trouble:
         print(f"compare.py: {trouble}", file=sys.stderr)
         return 2

@@ -17,15 +17,15 @@
  * state is handed in, and none is kept between calls. Nothing is locked and nothing is allocated on the heap, so
  * several threads may call at once, each with a buffer of its own. A call neither keeps nor frees what it was lent.
  *
- * The numbers. Of 1 to 10 the first faulty line counts, and in it the lowest number; docs/MANUAL.md says how to mend
- * each:
+ * The numbers. Of 1 to 10 and 16 the first faulty line counts, and in it the one that is judged first: 16 is judged
+ * after 4 and before 5, the others in their order. docs/MANUAL.md says how to mend each:
  *
  *    0  accepted; line is the count of all lines, or of all records
  *    1  text over 65,536 bytes (line 0)
  *    2  last line without its line feed, or unknown first field
  *    3  the kind cannot stand here, or the text ends too early (line is one past the last); a record of another kind
  *    4  wrong count of fields, or a bad number
- *    5  33rd update, 17th move, 4,001st entry or record
+ *    5  33rd update, 17th move, 4,001st entry or record; the n steps of a run are n entries
  *    6  P, N, B, S or C outside its range
  *    7  a job's card not below P, or its priority over 255
  *    8  same card and priority as an earlier job
@@ -36,9 +36,11 @@
  *   13  step: card not below P
  *   14  step: no job active on the card
  *   15  report longer than the buffer (line 0)
+ *   16  a run `step card n` with n not from 1 to 4,000
  *
- * 1 to 10 are judged before any entry runs, and leave no report. 11 to 14 stop the run; the report is of the state
- * before that entry. 15 is decided last, and leaves the buffer untouched. Lines, and places of records, count from 1.
+ * 1 to 10 and 16 are judged before any entry runs, and leave no report. 11 to 14 stop the run; the report is of the
+ * state before that entry, and the line of a step in a run is the run's. 15 is decided last, and leaves the buffer
+ * untouched. Lines, and places of records, count from 1.
  */
 #ifndef POINT_MEMORY_H
 #define POINT_MEMORY_H
@@ -53,13 +55,13 @@ extern "C" {
 /* A buffer of so many bytes is long enough for every report: it is proved that none is longer than 75,101 bytes. */
 #define POINT_MEMORY_REPORT_ROOM 80000
 
-/* What a check answers: a number from 0 to 10, and its line. */
+/* What a check answers: a number from 0 to 10, or 16, and its line. */
 typedef struct {
     size_t number;
     size_t line;
 } point_memory_answer;
 
-/* What a run answers: a number from 0 to 15, its line or the record's place, and the length of the report, which stands
+/* What a run answers: a number from 0 to 16, its line or the record's place, and the length of the report, which stands
    in the first bytes of the buffer; 0 where none is written. */
 typedef struct {
     size_t number;
@@ -71,15 +73,15 @@ typedef struct {
 #define POINT_MEMORY_CALL 0
 #define POINT_MEMORY_STEP 1
 
-/* An entry as a record: a call of job `first` with update `second`, or a step of card `first`; a step's `second` is not
-   looked at. */
+/* An entry as a record: a call of job `first` with update `second`, or one step of card `first`; a step's `second` is
+   not looked at. */
 typedef struct {
     uint32_t kind;
     uint32_t first;
     uint32_t second;
 } point_memory_entry;
 
-/* Checks a text, without running its entries: 0 and the count of its lines, or a number from 1 to 10 and the line. */
+/* Checks a text, without running its entries: 0 and the count of its lines, or 1 to 10 or 16 and the line. */
 point_memory_answer point_memory_check(const uint8_t *text, size_t text_length);
 
 /* The same for a plan's text, in which an entry line is 3. */

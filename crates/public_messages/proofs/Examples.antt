@@ -14,7 +14,7 @@ pub record Row : Type 0 where
   pub entry : ℕ
   pub said : String
 
--- The rows: the text as a whole, a line, an entry; and of acceptance and of 15 nothing.
+-- The rows: the text as a whole, a line, an entry; and nothing of acceptance and past the table.
 abbrev pub rows : List Row
 rows =
     record { number = 1; line = 0; entry = 0; said = "refused with 1: the text has more than 65,536 bytes\n" }
@@ -30,8 +30,15 @@ rows =
       entry = 35;
       said = "line 40, entry 35: refused with 14: no job is active on the card\n";
     }
+    ∷ record { number = 15; line = 0; entry = 0; said = "refused with 15: the report is longer than the buffer\n" }
+    ∷ record {
+      number = 16;
+      line = 7;
+      entry = 0;
+      said = "line 7: refused with 16: a run has from 1 to 4,000 steps\n";
+    }
     ∷ record { number = 0; line = 39; entry = 0; said = "" }
-    ∷ record { number = 15; line = 0; entry = 0; said = "" }
+    ∷ record { number = 17; line = 1; entry = 0; said = "" }
     ∷ []
 
 -- Every row is said so.

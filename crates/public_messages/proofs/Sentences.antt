@@ -7,7 +7,7 @@ use mathlib.Core.List.{List, [], _∷_, map}
 use native.Mathlib.Nat.{zero-add}
 use native.Mathlib.Omega.{arith}
 use denote.Ref.{RefT, now}
-use borrow.Author.Tests.{lt-ltb, le-leb, lt-leb}
+use borrow.Author.Tests.{lt-ltb, le-ltb}
 use lib.Dec.{ltb, lit≤}
 use lib.ListN.{length, getD}
 use Rattle.spec_text.specs.FirstPlaces.{inFirstPlaces}
@@ -59,13 +59,13 @@ Said number line entry before next after =
 pub accepted-silent : (number line entry : ℕ) (before : List ℕ) → number ≡ 0 → Said number line entry before 0 before
 accepted-silent number line entry before is = rw is (refl, ((omega arith, refl), refl))
 
--- nor of what lies past 14.
-pub past-silent : (number line entry : ℕ) (before : List ℕ) → 14 < number → Said number line entry before 0 before
+-- nor of what lies past the table.
+pub past-silent : (number line entry : ℕ) (before : List ℕ) → 17 ≤ number → Said number line entry before 0 before
 past-silent number line entry before past =
-    rw (lt-leb number 14 past, and-false (ltb 0 number)) (refl, ((omega arith, refl), refl))
+    rw (le-ltb number 17 past, and-false (ltb 0 number)) (refl, ((omega arith, refl), refl))
 
--- Of 1 to 14 the line is said, for which there is room.
-pub refused-said : (number line entry : ℕ) {before after : List ℕ} {next : ℕ} → 0 < number → number ≤ 14
+-- Of a refusal the line is said, for which there is room.
+pub refused-said : (number line entry : ℕ) {before after : List ℕ} {next : ℕ} → 0 < number → number < 17
     → 161 ≤ length before → Writes (refusalLine number line entry) 161 0 before next after
     → Said number line entry before next after
 refused-said number line entry {before} some few long w =
@@ -73,4 +73,4 @@ refused-said number line entry {before} some few long w =
     let short : length said ≤ length before = omega (arith, w .next-is, w .at-most, long) in
     let all = w .next-is ∙ zero-add _ in
     let first = w .after-is ∙ put-whole before said short in
-    rw (lt-ltb 0 number some, le-leb number 14 few) (all, (counts said before all first, first))
+    rw (lt-ltb 0 number some, lt-ltb number 17 few) (all, (counts said before all first, first))

@@ -3,8 +3,8 @@
 use Prim.Native.Nat.{ℕ}
 use mathlib.Core.Bool.{cond, _&&_}
 use mathlib.Core.List.{List, [], _∷_, _++_}
-use lib.Dec.{eqb, ltb, leb}
-use lib.ListN.{getD}
+use lib.Dec.{eqb, ltb}
+use lib.ListN.{length, getD}
 use Rattle.spec_text.specs.Bytes.{bytes}
 use Rattle.spec_text.specs.Decimal.{decimal}
 
@@ -26,6 +26,8 @@ meanings =
     ∷ bytes "the job is active: its last call has not returned"
     ∷ bytes "the card is not below P"
     ∷ bytes "no job is active on the card"
+    ∷ bytes "the report is longer than the buffer"
+    ∷ bytes "a run has from 1 to 4,000 steps"
     ∷ []
 
 -- What a number means.
@@ -46,6 +48,6 @@ refusalLine number line entry =
     whereMet line entry
     ++ (bytes "refused with " ++ (decimal number ++ (bytes ": " ++ (meaning number ++ (10 ∷ [])))))
 
--- What is said of an end: the line of a refusal by 1 to 14; nothing of acceptance, nor of any other number.
+-- What is said of an end: the line of a refusal; nothing of acceptance, nor of a number past the table.
 abbrev pub message : ℕ → ℕ → ℕ → List ℕ
-message number line entry = cond (ltb 0 number && leb number 14) (refusalLine number line entry) []
+message number line entry = cond (ltb 0 number && ltb number (length meanings)) (refusalLine number line entry) []

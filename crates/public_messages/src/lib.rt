@@ -13,8 +13,8 @@ ghost use Rattle.public_messages.specs.Messages.{meaning, entryPart, whe
 pub const MESSAGE: usize = 200;
 
 // The sentence of a table that stands at a place.
-fn sentence_at<'a>(sentences: [&'a [u8]; 15], number: usize) -> &'a [u8]
-    requires { ⌜ number < 15 ⌝ }
+fn sentence_at<'a>(sentences: [&'a [u8]; 17], number: usize) -> &'a [u8]
+    requires { ⌜ number < 17 ⌝ }
     ensures { λ r. ⌜ now r ≡ getD (map now (sentences .entry)) number [] ⌝ }
 {
     sentences[number]
@@ -22,7 +22,7 @@ fn sentence_at<'a>(sentences: [&'a [u8]; 15], number: usize) -> &'a [u8]
 
 // What a number means.
 fn put_meaning(buffer: &mut [u8], at: usize, number: usize) -> usize
-    requires { ⌜ (number < 15) × (at + 100 ≤ 4294967296) ⌝ }
+    requires { ⌜ (number < 17) × (at + 100 ≤ 4294967296) ⌝ }
     ensures { λ r. ⌜ Writes (meaning number) 100 at (now (buffer .entry)) r (now (buffer .exit)) ⌝ }
 {
     let meaning = sentence_at(
@@ -42,6 +42,8 @@ fn put_meaning(buffer: &mut [u8], at: usize, number: usize) -> usize
             b"the job is active: its last call has not returned",
             b"the card is not below P",
             b"no job is active on the card",
+            b"the report is longer than the buffer",
+            b"a run has from 1 to 4,000 steps",
         ],
         number,
     );
@@ -75,7 +77,7 @@ fn put_where_met(buffer: &mut [u8], line: u32, entry: u32) -> usize
 
 // The line of a refusal, at the buffer's start.
 fn put_refusal(buffer: &mut [u8], number: u32, line: u32, entry: u32) -> usize
-    requires { ⌜ number < 15 ⌝ }
+    requires { ⌜ number < 17 ⌝ }
     ensures { λ r. ⌜ Writes (refusalLine number line entry) 161 0 (now (buffer .entry)) r (now (buffer .exit)) ⌝ }
 {
     let start = put_where_met(buffer, line, entry);
@@ -96,7 +98,7 @@ pub fn explain(number: u32, line: u32, entry: u32, buffer: &mut [u8; MESSAGE]) -
     if number == 0 {
         return 0;
     }
-    if number > 14 {
+    if number > 16 {
         return 0;
     }
     put_refusal(buffer, number, line, entry)

@@ -19,7 +19,7 @@ use Rattle.spec_format.proofs.LineCounts.{low-count, low-lines, low-refused}
 use Rattle.spec_machine.specs.History.{runOf}
 use Rattle.spec_machine.proofs.EveryRun.{always}
 use Rattle.spec_report.specs.declared.End.{End}
-use Rattle.spec_report.specs.Report.{endNumber, endLine, endEntry, reportEnd}
+use Rattle.spec_report.specs.Report.{largestNumber, endNumber, endLine, endEntry, reportEnd}
 use Rattle.spec_report.specs.Outcomes.{
   RunOutcome,
   refused,
@@ -177,7 +177,7 @@ module _ (text : List ℕ) {a : Answer} (is : a ≡ answerOf (verdictOf (reading
   entry-none = check-entry (verdictOf (reading Form.Schedule text))
 
   -- and the number is small.
-  pub number-low : a .number ≤ 15
+  pub number-low : a .number ≤ largestNumber
   number-low = omega (arith, number-is, end-number end)
 
   -- The line is small too.

@@ -5,7 +5,7 @@ ghost use Rattle.spec_report.specs.Outcomes.{runText, handed, left};
 ghost use Rattle.report_ending.specs.Finishing.{endedOf};
 ghost use Rattle.public_reference.specs.Answers.{answerOf};
 ghost use denote.Ref.{ptr};
-use read_tables::ENTRY_PLACES;
+use read_tables::NOTE_PLACES;
 use read_tables::PLAN_PLACES;
 use report_ending::Ended;
 use spec_format::Form;
@@ -18,13 +18,13 @@ pub struct Answer {
     pub line: usize,
 }
 
-// Judges a text by the numbers 1 to 10. In a text of the form PlanAlone an entry cannot stand.
+// Judges a text by the numbers 1 to 10 and 16. In a text of the form PlanAlone an entry cannot stand.
 pub fn check(text: &[u8], form: Form) -> Verdict
     ensures { λ r. ⌜ r ≡ verdictOf (reading form (now (text .entry))) ⌝ }
 {
     let mut plan = [0u32; PLAN_PLACES];
-    let mut entries = [0u32; ENTRY_PLACES];
-    let parsed = read_text::read(text, form, &mut plan, &mut entries);
+    let mut notes = [0u32; NOTE_PLACES];
+    let parsed = read_text::read(text, form, &mut plan, &mut notes);
     parsed.verdict
 }
 

@@ -9,7 +9,6 @@ use lib.Dec.{ltb, eqb}
 use lib.ListN.{length, take}
 use borrow.Author.Tests.{ltb-true, eqb-true}
 use Rattle.spec_text.proofs.Cases.{both}
-use Rattle.spec_text.specs.Lines.{numbers}
 use Rattle.read_fields.specs.FieldPlaces.{placeOf, fieldsAt}
 use Rattle.read_fields.proofs.LinePlaces.{fields-first}
 use Rattle.read_few_numbers.specs.declared.Three.{Three}
@@ -18,7 +17,7 @@ use Rattle.spec_format.specs.declared.Fault.{Fault}
 use Rattle.spec_format.specs.declared.Form.{Form}
 use Rattle.spec_format.specs.declared.Kind.{Kind}
 use Rattle.spec_format.specs.Kinds.{kindOf}
-use Rattle.spec_format.specs.ParsedLines.{Directive, directiveOf, numberCount, ParsedLine, parsedOf}
+use Rattle.spec_format.specs.ParsedLines.{Directive, directiveOf, numbersFor, ParsedLine, parsedOf}
 use Rattle.spec_format.specs.Faults.{isUnknown, stands, laidOut, lacksJobs, lacksBlocks}
 use Rattle.spec_format.specs.Plan.{tabulate}
 use Rattle.read_tables.specs.PlanTable.{sizesIn, updatesIn, updateAt}
@@ -43,19 +42,19 @@ use Rattle.read_line_promises.proofs.Lacking.{lacks-jobs}
 module _ (k met : Kind) (s : ℕ) (fs : List (List ℕ)) (p : Progress) (x x′ : ReadTables) (r : LineRead)
     (e : k ≡ met) where
   -- What is promised of the one is promised of the other.
-  pub at-kind : LineStep met p x x′ (directiveOf met (numbers (numberCount s met) fs)) r
-      → LineStep k p x x′ (directiveOf k (numbers (numberCount s k) fs)) r
-  at-kind step = subst (λ (y : Kind). LineStep y p x x′ (directiveOf y (numbers (numberCount s y) fs)) r) (sym e) step
+  pub at-kind : LineStep met p x x′ (directiveOf met (numbersFor s met fs)) r
+      → LineStep k p x x′ (directiveOf k (numbersFor s k fs)) r
+  at-kind step = subst (λ (y : Kind). LineStep y p x x′ (directiveOf y (numbersFor s y fs)) r) (sym e) step
 
   -- The same, where the line's numbers, at most three, have been read.
   pub at-three : (says : Three → Option Directive) → ((o : Option (List ℕ)) → says (asThree o) ≡ directiveOf met o)
       → (n : Three)
-      → n ≡ asThree (numbers (numberCount s met) fs) → LineStep met p x x′ (says n) r
-      → LineStep k p x x′ (directiveOf k (numbers (numberCount s k) fs)) r
+      → n ≡ asThree (numbersFor s met fs) → LineStep met p x x′ (says n) r
+      → LineStep k p x x′ (directiveOf k (numbersFor s k fs)) r
   at-three says same n is step =
       at-kind
       (subst (λ (i : Option Directive). LineStep met p x x′ i r)
-      (ap says is ∙ same (numbers (numberCount s met) fs)) step)
+      (ap says is ∙ same (numbersFor s met fs)) step)
 
 -- The kind of a line that holds a move.
 abbrev moveLine : MoveKind → Kind
@@ -72,17 +71,10 @@ says-move MoveKind.Set (some ns) = refl
 says-move MoveKind.Add none = refl
 says-move MoveKind.Add (some ns) = refl
 
--- The kind of a line that holds an entry.
-abbrev entryLine : EntryKind → Kind
-entryLine EntryKind.Call = Kind.Call
-entryLine EntryKind.Step = Kind.Step
-
--- What a line that holds an entry says is what the definitions say.
-pub says-entry : (k : EntryKind) (o : Option (List ℕ)) → entryDirective k (asThree o) ≡ directiveOf (entryLine k) o
-says-entry EntryKind.Call none = refl
-says-entry EntryKind.Call (some ns) = refl
-says-entry EntryKind.Step none = refl
-says-entry EntryKind.Step (some ns) = refl
+-- What the line `call` says is what the definitions say.
+pub says-call : (o : Option (List ℕ)) → entryDirective EntryKind.Call (asThree o) ≡ directiveOf Kind.Call o
+says-call none = refl
+says-call (some ns) = refl
 
 -- Of an unknown kind nothing is promised here.
 pub at-unknown : (p : Progress) (x x′ : ReadTables) (i : Option Directive) (f : Fault) (n : ℕ)
@@ -99,7 +91,7 @@ record-is : (s : ℕ) (line : List ℕ) (k : Kind) → kindOf (take (placeOf 9 l
     ≡ record {
       ended = true;
       kind = k;
-      directive = directiveOf k (numbers (numberCount s k) (fieldsAt line (placeOf 9 line 0 + 1)));
+      directive = directiveOf k (numbersFor s k (fieldsAt line (placeOf 9 line 0 + 1)));
     }
 unfolding parsedOf
 record-is s line k e = rw (fields-first line, e)
@@ -122,14 +114,14 @@ module _ (form : Form) (p : Progress) (x x′ : ReadTables) (line : List ℕ) (k
 
     -- A line that can, whose first field ends at place n.
     pub done-read : (r : LineRead) (n : ℕ) → n ≡ placeOf 9 line 0 → stands form (draftOf p (x .plan)) k ≡ true
-        → LineStep k p x x′ (directiveOf k (numbers (numberCount size k) (fieldsAt line (n + 1)))) r
+        → LineStep k p x x′ (directiveOf k (numbersFor size k (fieldsAt line (n + 1)))) r
         → LineDone form p x x′ line r
     done-read r n e s step =
         record {
           says = rw (record-is size line k named, ← e) (step .says form known s);
           holds = step .holds;
           noted =
-              subst (λ (y : ParsedLine). NotedAfter p r (x .entries) (x′ .entries) (y .directive))
+              subst (λ (y : ParsedLine). NotedAfter p r (x .notes) (x′ .notes) (y .directive))
               (sym (record-is size line k named))
               (rw e at (step .noted));
         }

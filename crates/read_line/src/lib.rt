@@ -2,18 +2,17 @@
 ghost use mathlib.Core.Path.{_≡_};
 ghost use Prim.Native.Nat.{_≤_, _<_, _+_};
 ghost use lib.ListN.{length};
-ghost use Rattle.spec_text.specs.Lines.{numbers};
 ghost use Rattle.read_fields.specs.FieldPlaces.{fieldsAt};
-ghost use Rattle.spec_format.specs.ParsedLines.{directiveOf, numberCount};
+ghost use Rattle.spec_format.specs.ParsedLines.{directiveOf, numbersFor};
 ghost use Rattle.read_tables.specs.PlanTable.{sizesIn};
-ghost use Rattle.read_tables.specs.EntryTable.{entryPlaces};
+ghost use Rattle.read_tables.specs.NoteTable.{notePlaces};
 ghost use Rattle.read_line_promises.specs.Promises.{readTables, Consistent, LineStep, LineDone, Standing};
 use read_few_numbers::three_at;
 use read_line_promises::EntryKind;
 use read_line_promises::LineRead;
 use read_line_promises::MoveKind;
 use read_line_promises::Progress;
-use read_tables::ENTRY_PLACES;
+use read_tables::NOTE_PLACES;
 use read_tables::PLAN_PLACES;
 use spec_format::Fault;
 use spec_format::Form;
@@ -26,15 +25,15 @@ fn read_kind(
     at: usize,
     p: Progress,
     plan: &mut [u32; PLAN_PLACES],
-    entries: &mut [u32; ENTRY_PLACES],
+    notes: &mut [u32; NOTE_PLACES],
 ) -> LineRead
     requires { ⌜ (at ≤ length (now line) + 1) × (Standing p (now plan) kind × (p .lines < 65536)) ⌝ }
-    requires { ⌜ Consistent p (now plan) × (length (now entries) ≡ entryPlaces) ⌝ }
+    requires { ⌜ Consistent p (now plan) × (length (now notes) ≡ notePlaces) ⌝ }
     ensures { λ r. ⌜ LineStep kind p
-        (readTables (now (plan .entry)) (now (entries .entry)))
-        (readTables (now (plan .exit)) (now (entries .exit)))
+        (readTables (now (plan .entry)) (now (notes .entry)))
+        (readTables (now (plan .exit)) (now (notes .exit)))
         (directiveOf kind
-        (numbers (numberCount (sizesIn (now (plan .entry)) .words) kind) (fieldsAt (now (line .entry)) at)))
+        (numbersFor (sizesIn (now (plan .entry)) .words) kind (fieldsAt (now (line .entry)) at)))
         r ⌝ }
 {
     match kind {
@@ -49,14 +48,9 @@ fn read_kind(
             EntryKind::Call,
             three_at(line, at, 2),
             p,
-            entries,
+            notes,
         ),
-        Kind::Step => read_entry_lines::entry_line(
-            EntryKind::Step,
-            three_at(line, at, 1),
-            p,
-            entries,
-        ),
+        Kind::Step => read_entry_lines::step_line(line, at, p, notes),
         Kind::Unknown => LineRead::Refused(Fault::Unknown, p.lines + 1),
     }
 }
@@ -67,12 +61,12 @@ pub fn read_line(
     form: Form,
     p: Progress,
     plan: &mut [u32; PLAN_PLACES],
-    entries: &mut [u32; ENTRY_PLACES],
+    notes: &mut [u32; NOTE_PLACES],
 ) -> LineRead
-    requires { ⌜ (p .lines < 65536) × (Consistent p (now plan) × (length (now entries) ≡ entryPlaces)) ⌝ }
+    requires { ⌜ (p .lines < 65536) × (Consistent p (now plan) × (length (now notes) ≡ notePlaces)) ⌝ }
     ensures { λ r. ⌜ LineDone form p
-        (readTables (now (plan .entry)) (now (entries .entry)))
-        (readTables (now (plan .exit)) (now (entries .exit)))
+        (readTables (now (plan .entry)) (now (notes .entry)))
+        (readTables (now (plan .exit)) (now (notes .exit)))
         (now (line .entry))
         r ⌝ }
 {
@@ -83,7 +77,7 @@ pub fn read_line(
         return LineRead::Refused(Fault::Unknown, number);
     }
     if read_kinds::can_stand(form, p, plan, kind) {
-        return read_kind(kind, line, end + 1, p, plan, entries);
+        return read_kind(kind, line, end + 1, p, plan, notes);
     }
     LineRead::Refused(Fault::Misplaced, number)
 }

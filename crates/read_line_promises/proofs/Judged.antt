@@ -16,7 +16,8 @@ use Rattle.spec_format.specs.declared.Move.{Move}
 use Rattle.spec_format.specs.declared.Entry.{Entry}
 use Rattle.spec_format.specs.Plan.{named, blocksWritten}
 use Rattle.spec_format.specs.ParsedLines.{Directive, plan, job, block, update, move, entry}
-use Rattle.spec_format.specs.Faults.{Draft, stands, isUnknown, inRange, taken, someFrom, lastOf}
+use Rattle.spec_format.specs.Faults.{Draft, stands, isUnknown, within, inRange, taken, someFrom, lastOf}
+use Rattle.spec_format.specs.Faults.{longestRun, mostEntries}
 use Rattle.spec_format.specs.Reading.{ReadOutcome, refused, sound, after, orElse}
 use Rattle.read_line_promises.specs.Promises.{lineOutcome}
 
@@ -71,9 +72,12 @@ module _ (form : Form) (d : Draft) (k : Kind) (known : isUnknown k ≡ false) (h
       (sound (after d (some (move m))))
   move-judged m = rw (known, here)
 
-  -- An entry.
-  pub entry-judged : (e : Entry)
-      → came (some (entry e))
-      ≡ orElse (cond (leb 4000 (d .entries)) (some Fault.TooMany) none) (d .lines + 1)
-      (sound (after d (some (entry e))))
-  entry-judged e = rw (known, here)
+  -- An entry that comes n times.
+  pub entry-judged : (e : Entry) (n : ℕ)
+      → came (some (entry e n))
+      ≡ orElse
+      (cond (not (within 1 longestRun n)) (some Fault.BadRun)
+      (cond (ltb mostEntries (d .entries + n)) (some Fault.TooMany) none))
+      (d .lines + 1)
+      (sound (after d (some (entry e n))))
+  entry-judged e n = rw (known, here)

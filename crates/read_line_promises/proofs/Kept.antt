@@ -19,9 +19,10 @@ use Rattle.read_tables.proofs.PlanTable.{sizes-same, jobs-same, words-same, upd
 use Rattle.read_line_promises.specs.declared.Progress.{Progress}
 use Rattle.read_line_promises.specs.Promises.{Ranged, Consistent}
 
--- The progress after one more line, with these numbers of jobs, blocks, blocks written and entries.
-abbrev pub onward : Progress → ℕ → ℕ → ℕ → ℕ → Progress
-onward p j b w e = record { lines = p .lines + 1; jobs = j; blocks = b; written = w; entries = e }
+-- The progress after one more line without an entry, with these numbers of jobs, blocks and blocks written.
+abbrev pub onward : Progress → ℕ → ℕ → ℕ → Progress
+onward p j b w =
+    record { lines = p .lines + 1; jobs = j; blocks = b; written = w; entries = p .entries; notes = p .notes }
 
 -- Drafts of the same plan come to the same.
 pub drafted : (n b e : ℕ) {x y : Plan} → x ≡ y
@@ -29,10 +30,10 @@ pub drafted : (n b e : ℕ) {x y : Plan} → x ≡ y
     (sound (record { lines = n; blocks = b; entries = e; plan = y }))
 drafted n b e same = ap (λ (x : Plan). sound (record { lines = n; blocks = b; entries = e; plan = x })) same
 
--- The numbers stay in their ranges where one line adds one of them.
-pub still-ranged : (p : Progress) (z : Sizes) (n j b u w e : ℕ) → Ranged p z n → p .lines < 65536 → j ≤ z .jobs
-    → b ≤ z .blocks → u ≤ 32 → w ≤ 8 → e ≤ 4000 → j + b + u + e ≤ p .lines + 1 → Ranged (onward p j b w e) z u
-still-ranged p z n j b u w e r room hj hb hu hw he sum =
+-- The numbers stay in their ranges where one line without an entry adds one of them.
+pub still-ranged : (p : Progress) (z : Sizes) (n j b u w : ℕ) → Ranged p z n → p .lines < 65536 → j ≤ z .jobs
+    → b ≤ z .blocks → u ≤ 32 → w ≤ 8 → j + b + u ≤ p .lines + 1 → Ranged (onward p j b w) z u
+still-ranged p z n j b u w r room hj hb hu hw sum =
     record {
       cards = r .cards;
       jobs = r .jobs;
@@ -42,9 +43,10 @@ still-ranged p z n j b u w e r room hj hb hu hw he sum =
       jobs-read = hj;
       blocks-read = hb;
       updates-read = hu;
-      entries-read = he;
+      entries-read = r .entries-read;
       lines-read = omega arith;
       blocks-written = hw;
+      notes-read = r .notes-read;
       in-lines = sum;
     }
 

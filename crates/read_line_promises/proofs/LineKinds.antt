@@ -3,7 +3,7 @@
 use Prim.Native.Nat.{ℕ, _+_, _*_, _≤_, _<_}
 use mathlib.Core.Path.{_≡_, refl, sym, _∙_, ap, subst}
 use mathlib.Core.Logic.{inl, inr}
-use mathlib.Core.Bool.{true, false, cond, _||_}
+use mathlib.Core.Bool.{true, false, cond, not, _||_}
 use mathlib.Core.List.{List, [], _∷_, _++_, append-nil}
 use mathlib.Core.Option.{Option, none, some}
 use native.Mathlib.Nat.{zero-mul, mul-le-mul, add-mul, one-mul}
@@ -23,16 +23,16 @@ use Rattle.spec_format.specs.declared.Move.{Move}
 use Rattle.spec_format.specs.declared.Entry.{Entry}
 use Rattle.spec_format.specs.Plan.{named, tabulate, blocksWritten}
 use Rattle.spec_format.specs.ParsedLines.{Directive, directive, directiveOf, plan, job, block, update, move, entry}
-use Rattle.spec_format.specs.Faults.{inRange, within, taken, someFrom, lastOf}
+use Rattle.spec_format.specs.Faults.{inRange, within, taken, someFrom, lastOf, longestRun, mostEntries}
 use Rattle.spec_format.specs.Reading.{addToLast, listed}
 use Rattle.spec_format.proofs.Tabulated.{length-tabulate}
 use Rattle.read_tables.specs.Puts.{part, Put}
 use Rattle.read_tables.specs.PlanTable.{planPlaces, updatesAt, cardsAt, prioritiesAt, countsAt, wordsAt, movesAt}
 use Rattle.read_tables.specs.PlanTable.{sizesIn, updatesIn, jobAt, countAt, moveStart, moveAt, updateAt, numbersOf}
-use Rattle.read_tables.specs.EntryTable.{entryPlaces, entryStart, notesOf, listedIn}
+use Rattle.read_tables.specs.NoteTable.{notePlaces, noteStart, placesOf, listedIn}
 use Rattle.read_tables.proofs.Puts.{Same, outside, same-then, put-there}
 use Rattle.read_tables.proofs.PlanTable.{sizes-same, jobs-more, words-more, updates-more, moves-more}
-use Rattle.read_tables.proofs.EntryTable.{entries-more}
+use Rattle.read_tables.proofs.NoteTable.{notes-more}
 use Rattle.read_line_promises.specs.declared.Progress.{Progress}
 use Rattle.read_line_promises.specs.declared.LineRead.{LineRead}
 use Rattle.read_line_promises.specs.Promises.{
@@ -51,12 +51,12 @@ use Rattle.read_line_promises.proofs.Kept.{onward, drafted, still-range
 use Rattle.read_line_promises.proofs.Kept.{ranged-kept, words-kept, jobs-kept, updates-kept, holds-kept}
 
 -- A line that says no entry notes none.
-silent : (p q : Progress) (e : List ℕ) (i : Option Directive) → q .entries ≡ p .entries → listed (p .lines + 1) i ≡ []
+silent : (p q : Progress) (e : List ℕ) (i : Option Directive) → q .notes ≡ p .notes → listed (p .lines + 1) i ≡ []
     → Noted p q e e i
 silent p q e i same nothing =
     record {
       long = refl;
-      more = rw (same, nothing) (sym (append-nil (listedIn (p .entries) e)));
+      more = rw (same, nothing) (sym (append-nil (listedIn (p .notes) e)));
     }
 
 module _ (k : Kind) (r : Numbers) (ws : List ℕ) (ns : Option (List ℕ)) (e : readInto r ws ≡ ns) where
@@ -104,7 +104,7 @@ pub plan-read : (p : Progress) (t u e : List ℕ) (i : Option Directive) (z : Si
     → inRange z ≡ true → p .lines ≡ 0 → Consistent p t
     → Put 0 (z .cards ∷ z .jobs ∷ z .blocks ∷ z .words ∷ z .copies ∷ []) t u
     → LineStep Kind.Plan p (readTables t e) (readTables u e) i
-    (LineRead.Read (onward p (p .jobs) (p .blocks) (p .written) (p .entries)))
+    (LineRead.Read (onward p (p .jobs) (p .blocks) (p .written)))
 plan-read p t u e i z says-it good start h put =
     record {
       says =
@@ -126,7 +126,7 @@ plan-read p t u e i z says-it good start h put =
     }
   where
     next : Progress
-    next = onward p (p .jobs) (p .blocks) (p .written) (p .entries)
+    next = onward p (p .jobs) (p .blocks) (p .written)
 
     no-jobs : p .jobs ≡ 0
     no-jobs = omega (arith, h .ranged .in-lines)
@@ -178,6 +178,7 @@ plan-read p t u e i z says-it good start h put =
           entries-read = h .ranged .entries-read;
           lines-read = omega arith;
           blocks-written = h .ranged .blocks-written;
+          notes-read = h .ranged .notes-read;
           in-lines = omega (arith, no-jobs, no-blocks, none-u, h .ranged .in-lines);
         }
 
@@ -202,7 +203,7 @@ pub job-read : (p : Progress) (t s u e : List ℕ) (i : Option Directive) (j : J
     → p .jobs < sizesIn t .jobs → p .lines < 65536 → Consistent p t
     → Put (cardsAt + p .jobs) (j .card ∷ []) t s → Put (prioritiesAt + p .jobs) (j .priority ∷ []) s u
     → LineStep Kind.Job p (readTables t e) (readTables u e) i
-    (LineRead.Read (onward p (p .jobs + 1) (p .blocks) (p .written) (p .entries)))
+    (LineRead.Read (onward p (p .jobs + 1) (p .blocks) (p .written)))
 job-read p t s u e i j says-it good more room h put put′ =
     record {
       says =
@@ -213,15 +214,15 @@ job-read p t s u e i j says-it good more room h put put′ =
       holds =
           holds-kept h count counts moves next sizes
           (ranged-kept h first next
-          (still-ranged p (sizesIn t) (updatesIn t) (p .jobs + 1) (p .blocks) (updatesIn t) (p .written) (p .entries) r
-          room (omega arith) (r .blocks-read) (r .updates-read) (r .blocks-written) (r .entries-read) (omega arith)))
+          (still-ranged p (sizesIn t) (updatesIn t) (p .jobs + 1) (p .blocks) (updatesIn t) (p .written) r
+          room (omega arith) (r .blocks-read) (r .updates-read) (r .blocks-written) (omega arith)))
           (put′ .long ∙ put .long)
           refl;
       noted = silent p next e i refl (ap (listed (p .lines + 1)) says-it);
     }
   where
     next : Progress
-    next = onward p (p .jobs + 1) (p .blocks) (p .written) (p .entries)
+    next = onward p (p .jobs + 1) (p .blocks) (p .written)
 
     r : Ranged p (sizesIn t) (updatesIn t)
     r = h .ranged
@@ -265,7 +266,7 @@ pub block-read : (p : Progress) (t u e ws : List ℕ) (i : Option Directive) →
     → length ws ≡ sizesIn t .words → p .blocks < sizesIn t .blocks → p .lines < 65536 → Consistent p t
     → Put (wordsAt + p .blocks * sizesIn t .words) ws t u
     → LineStep Kind.Block p (readTables t e) (readTables u e) i
-    (LineRead.Read (onward p (p .jobs) (p .blocks + 1) (p .written) (p .entries)))
+    (LineRead.Read (onward p (p .jobs) (p .blocks + 1) (p .written)))
 block-read p t u e ws i says-it many more room h put =
     record {
       says =
@@ -276,15 +277,15 @@ block-read p t u e ws i says-it many more room h put =
       holds =
           holds-kept h count counts moves next sizes
           (ranged-kept h first next
-          (still-ranged p (sizesIn t) (updatesIn t) (p .jobs) (p .blocks + 1) (updatesIn t) (p .written) (p .entries) r
-          room (r .jobs-read) (omega arith) (r .updates-read) (r .blocks-written) (r .entries-read) (omega arith)))
+          (still-ranged p (sizesIn t) (updatesIn t) (p .jobs) (p .blocks + 1) (updatesIn t) (p .written) r
+          room (r .jobs-read) (omega arith) (r .updates-read) (r .blocks-written) (omega arith)))
           (put .long)
           refl;
       noted = silent p next e i refl (ap (listed (p .lines + 1)) says-it);
     }
   where
     next : Progress
-    next = onward p (p .jobs) (p .blocks + 1) (p .written) (p .entries)
+    next = onward p (p .jobs) (p .blocks + 1) (p .written)
 
     r : Ranged p (sizesIn t) (updatesIn t)
     r = h .ranged
@@ -354,7 +355,7 @@ pub update-read : (p : Progress) (t s u e : List ℕ) (i : Option Directive) (n 
     → n < 32 → p .lines < 65536 → Consistent p t
     → Put (countsAt + n) (0 ∷ []) t s → Put updatesAt ((n + 1) ∷ []) s u
     → LineStep Kind.Update p (readTables t e) (readTables u e) i
-    (LineRead.Read (onward p (p .jobs) (p .blocks) 0 (p .entries)))
+    (LineRead.Read (onward p (p .jobs) (p .blocks) 0))
 update-read p t s u e i n says-it place few room h put put′ =
     record {
       says =
@@ -371,8 +372,8 @@ update-read p t s u e i n says-it place few room h put put′ =
           record {
             ranged =
                 subst (λ (z : Sizes). Ranged next z (updatesIn u)) (sym sizes)
-                (still-ranged p (sizesIn t) (updatesIn t) (p .jobs) (p .blocks) (updatesIn u) 0 (p .entries) r room
-                (r .jobs-read) (r .blocks-read) (omega (arith, count, few)) (omega arith) (r .entries-read)
+                (still-ranged p (sizesIn t) (updatesIn t) (p .jobs) (p .blocks) (updatesIn u) 0 r room
+                (r .jobs-read) (r .blocks-read) (omega (arith, count, few)) (omega arith)
                 (omega (arith, count, place, r .in-lines)));
             room = put′ .long ∙ put .long ∙ h .room;
             filled = filled;
@@ -387,7 +388,7 @@ update-read p t s u e i n says-it place few room h put put′ =
     }
   where
     next : Progress
-    next = onward p (p .jobs) (p .blocks) 0 (p .entries)
+    next = onward p (p .jobs) (p .blocks) 0
 
     r : Ranged p (sizesIn t) (updatesIn t)
     r = h .ranged
@@ -431,32 +432,73 @@ update-read p t s u e i n says-it place few room h put put′ =
         v
         (omega (arith, count))
 
--- The 4,001st entry.
-pub many-entries : (k : Kind) (p : Progress) (x x′ : ReadTables) (i : Option Directive) (y : Entry) → i ≡ some (entry y)
-    → 4000 ≤ p .entries → LineStep k p x x′ i (LineRead.Refused Fault.TooMany (p .lines + 1))
-many-entries k p x x′ i y e many =
+module _ (k : Kind) (p : Progress) (x x′ : ReadTables) (i : Option Directive) (y : Entry) (n : ℕ)
+    (says-it : i ≡ some (entry y n)) where
+  -- An entry that comes n times, and has a fault for that.
+  pub bad-entry : (f : Fault)
+      → cond (not (within 1 longestRun n)) (some Fault.BadRun)
+      (cond (ltb mostEntries (p .entries + n)) (some Fault.TooMany) none)
+      ≡ some f
+      → LineStep k p x x′ i (LineRead.Refused f (p .lines + 1))
+  bad-entry f bad =
+      record {
+        says = λ form u s. rw (says-it, entry-judged form (draftOf p (x .plan)) k u s y n, bad);
+        holds = tt;
+        noted = tt;
+      }
+
+-- The progress after a line with an entry that comes n times.
+abbrev pub further : Progress → ℕ → Progress
+further p n =
     record {
-      says = λ form u s. rw (e, entry-judged form (draftOf p (x .plan)) k u s y, le-leb 4000 (p .entries) many);
-      holds = tt;
-      noted = tt;
+      lines = p .lines + 1;
+      jobs = p .jobs;
+      blocks = p .blocks;
+      written = p .written;
+      entries = p .entries + n;
+      notes = p .notes + 1;
     }
 
--- An entry is noted.
-pub entry-read : (k : Kind) (p : Progress) (t e e′ : List ℕ) (i : Option Directive) (y : Entry) → i ≡ some (entry y)
-    → p .entries < 4000 → p .lines < 65536 → Consistent p t → length e ≡ entryPlaces
-    → Put (entryStart (p .entries)) (notesOf (record { entry = y; line = p .lines + 1 })) e e′
-    → LineStep k p (readTables t e) (readTables t e′) i
-    (LineRead.Read (onward p (p .jobs) (p .blocks) (p .written) (p .entries + 1)))
-entry-read k p t e e′ i y says-it few room h whole put =
+-- The test of a run's range passes.
+in-run : (n : ℕ) → 1 ≤ n → n ≤ 4000 → within 1 longestRun n ≡ true
+in-run n low high = rw (le-leb 1 n low, le-leb n 4000 high)
+
+-- An entry that comes n times is noted.
+pub entry-read : (k : Kind) (p : Progress) (t e e′ : List ℕ) (i : Option Directive) (y : Entry) (n : ℕ)
+    → i ≡ some (entry y n) → 1 ≤ n → n ≤ 4000 → p .entries + n ≤ 4000 → p .lines < 65536 → Consistent p t
+    → length e ≡ notePlaces
+    → Put (noteStart (p .notes)) (placesOf (record { entry = y; times = n; line = p .lines + 1 })) e e′
+    → LineStep k p (readTables t e) (readTables t e′) i (LineRead.Read (further p n))
+entry-read k p t e e′ i y n says-it low high few room h whole put =
     let r = h .ranged in
+    let fewer : p .notes < 4000 = omega (arith, r .notes-read) in
     record {
-      says = λ form u s. rw (says-it, entry-judged form (draftOf p t) k u s y, lt-leb 4000 (p .entries) few);
+      says =
+          λ form u s.
+          rw (
+            says-it,
+            entry-judged form (draftOf p t) k u s y n,
+            in-run n low high,
+            le-ltb 4000 (p .entries + n) few,
+          );
       holds =
           record {
             ranged =
-                still-ranged p (sizesIn t) (updatesIn t) (p .jobs) (p .blocks) (updatesIn t) (p .written)
-                (p .entries + 1) r room (r .jobs-read) (r .blocks-read) (r .updates-read) (r .blocks-written)
-                (omega arith) (omega arith);
+                record {
+                  cards = r .cards;
+                  jobs = r .jobs;
+                  blocks = r .blocks;
+                  words = r .words;
+                  copies = r .copies;
+                  jobs-read = r .jobs-read;
+                  blocks-read = r .blocks-read;
+                  updates-read = r .updates-read;
+                  entries-read = few;
+                  lines-read = omega arith;
+                  blocks-written = r .blocks-written;
+                  notes-read = omega (arith, r .notes-read);
+                  in-lines = omega (arith, r .in-lines);
+                };
             room = h .room;
             filled = h .filled;
             counted = h .counted;
@@ -465,8 +507,8 @@ entry-read k p t e e′ i y says-it few room h whole put =
           record {
             long = put .long;
             more =
-                entries-more (p .entries) (record { entry = y; line = p .lines + 1 }) few whole put
-                ∙ ap (λ o. listedIn (p .entries) e ++ listed (p .lines + 1) o) (sym says-it);
+                notes-more (p .notes) (record { entry = y; times = n; line = p .lines + 1 }) fewer whole put
+                ∙ ap (λ o. listedIn (p .notes) e ++ listed (p .lines + 1) o) (sym says-it);
           };
     }
 
@@ -535,7 +577,7 @@ pub move-read : (k : Kind) (p : Progress) (t s u e : List ℕ) (i : Option Direc
     → judgement t m n ≡ none → length (blocksWritten (sizesIn t .words) (updateAt t n ++ (m ∷ []))) ≡ w
     → Put (moveStart (16 * n + c)) (numbersOf m) t s → Put (countsAt + n) ((c + 1) ∷ []) s u
     → LineStep k p (readTables t e) (readTables u e) i
-    (LineRead.Read (onward p (p .jobs) (p .blocks) w (p .entries)))
+    (LineRead.Read (onward p (p .jobs) (p .blocks) w))
 move-read k p t s u e i m n c w says-it place count few small room h good blocks put put′ =
     record {
       says =
@@ -553,8 +595,8 @@ move-read k p t s u e i m n c w says-it place count few small room h good blocks
           record {
             ranged =
                 ranged-kept h first next
-                (still-ranged p (sizesIn t) (updatesIn t) (p .jobs) (p .blocks) (updatesIn t) w (p .entries) r room
-                (r .jobs-read) (r .blocks-read) (r .updates-read) small (r .entries-read) (omega (arith, r .in-lines)));
+                (still-ranged p (sizesIn t) (updatesIn t) (p .jobs) (p .blocks) (updatesIn t) w r room
+                (r .jobs-read) (r .blocks-read) (r .updates-read) small (omega (arith, r .in-lines)));
             room = put′ .long ∙ put .long ∙ h .room;
             filled = filled;
             counted =
@@ -568,7 +610,7 @@ move-read k p t s u e i m n c w says-it place count few small room h good blocks
     }
   where
     next : Progress
-    next = onward p (p .jobs) (p .blocks) w (p .entries)
+    next = onward p (p .jobs) (p .blocks) w
 
     r : Ranged p (sizesIn t) (updatesIn t)
     r = h .ranged

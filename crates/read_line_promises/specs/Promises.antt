@@ -1,4 +1,4 @@
--- What reading one line promises: what the tables hold afterwards is the draft after that line, with its entry noted,
+-- What reading one line promises: what the tables hold afterwards is the draft after that line, with its entries noted,
 -- or the answer is the line's refusal. Progress and the answers are declared in src/lib.rt. Assumes nothing.
 use Prim.Native.Nat.{ℕ, _+_, _≤_, _<_}
 use mathlib.Core.Path.{_≡_}
@@ -16,22 +16,22 @@ use Rattle.spec_format.specs.declared.Entry.{Entry}
 use Rattle.spec_format.specs.Plan.{any, blockOf, blocksWritten}
 use Rattle.spec_format.specs.ParsedLines.{Directive, move, entry, ParsedLine}
 use Rattle.spec_format.specs.Faults.{Draft, hasFault, stands, isUnknown, lastOf}
-use Rattle.spec_format.specs.Reading.{ReadOutcome, refused, sound, after, firstOf, byNumber, orElse, parsedIn, listed}
+use Rattle.spec_format.specs.Reading.{ReadOutcome, refused, sound, after, firstOf, byRank, orElse, parsedIn, listed}
 use Rattle.read_tables.specs.PlanTable.{planPlaces, sizesIn, updatesIn, countAt, planUpTo}
-use Rattle.read_tables.specs.EntryTable.{listedIn}
+use Rattle.read_tables.specs.NoteTable.{listedIn}
 use Rattle.read_line_promises.specs.declared.Progress.{Progress}
 use Rattle.read_line_promises.specs.declared.LineRead.{LineRead}
 use Rattle.read_line_promises.specs.declared.MoveKind.{MoveKind}
 use Rattle.read_line_promises.specs.declared.EntryKind.{EntryKind}
 
--- The tables that a reading fills: the plan's, and the entries'.
+-- The tables that a reading fills: the plan's, and that of the notes.
 pub record ReadTables : Type 0 where
   pub plan : List ℕ
-  pub entries : List ℕ
+  pub notes : List ℕ
 
 -- These two.
 abbrev pub readTables : List ℕ → List ℕ → ReadTables
-readTables t e = record { plan = t; entries = e }
+readTables t e = record { plan = t; notes = e }
 
 -- The draft that has been read.
 abbrev pub draftOf : Progress → List ℕ → Draft
@@ -45,7 +45,7 @@ draftOf p t =
 
 -- What one line comes to after lines that gave the draft d: the refusal by its first fault, or the draft after it.
 abbrev pub lineOutcome : Form → Draft → ParsedLine → ReadOutcome
-lineOutcome form d r = orElse (firstOf (hasFault form d r) byNumber) (d .lines + 1) (sound (after d (r .directive)))
+lineOutcome form d r = orElse (firstOf (hasFault form d r) byRank) (d .lines + 1) (sound (after d (r .directive)))
 
 -- What the answer of a line's reading says, with the plan's table as it then is.
 abbrev pub readOutcome : LineRead → List ℕ → ReadOutcome
@@ -65,8 +65,10 @@ pub record Ranged (p : Progress) (sizes : Sizes) (updates : ℕ) : Type 0 where
   pub entries-read : p .entries ≤ 4000
   pub lines-read : p .lines ≤ 65536
   pub blocks-written : p .written ≤ 8
-  -- Jobs, blocks, updates and entries are lines, so before the first line there are none.
-  pub in-lines : p .jobs + p .blocks + updates + p .entries ≤ p .lines
+  -- Each note has an entry or more, so that there are at most 4,000.
+  pub notes-read : p .notes ≤ p .entries
+  -- Jobs, blocks and updates are lines, so before the first line there are none.
+  pub in-lines : p .jobs + p .blocks + updates ≤ p .lines
 
 -- Besides, the plan's table is whole, no update has more than 16 moves, and the blocks that the last one writes are
 -- counted.
@@ -81,10 +83,10 @@ abbrev pub ConsistentAfter : LineRead → List ℕ → Type 0
 ConsistentAfter (LineRead.Read q) t = Consistent q t
 ConsistentAfter (LineRead.Refused f n) t = Unit {0}
 
--- The entry that the next line says, if it says one, is noted behind the earlier ones.
+-- The single entries that the next line says, if it says any, are noted behind the earlier ones.
 pub record Noted (p q : Progress) (e e′ : List ℕ) (i : Option Directive) : Type 0 where
   pub long : length e′ ≡ length e
-  pub more : listedIn (q .entries) e′ ≡ listedIn (p .entries) e ++ listed (p .lines + 1) i
+  pub more : listedIn (q .notes) e′ ≡ listedIn (p .notes) e ++ listed (p .lines + 1) i
 
 -- The same of an answer.
 abbrev pub NotedAfter : Progress → LineRead → List ℕ → List ℕ → Option Directive → Type 0
@@ -100,7 +102,7 @@ pub record LineStep (kind : Kind) (p : Progress) (x x′ : ReadTables) (i : Opti
       → readOutcome r (x′ .plan)
       ≡ lineOutcome form (draftOf p (x .plan)) (record { ended = true; kind = kind; directive = i })
   pub holds : ConsistentAfter r (x′ .plan)
-  pub noted : NotedAfter p r (x .entries) (x′ .entries) i
+  pub noted : NotedAfter p r (x .notes) (x′ .notes) i
 
 -- A line of these bytes taken apart, after lines that gave the progress p and the plan's table t.
 abbrev pub parsedAt : Progress → List ℕ → List ℕ → ParsedLine
@@ -110,7 +112,7 @@ parsedAt p t bytes = parsedIn (draftOf p t) (record { bytes = bytes; ended = tru
 pub record LineDone (form : Form) (p : Progress) (x x′ : ReadTables) (bytes : List ℕ) (r : LineRead) : Type 0 where
   pub says : readOutcome r (x′ .plan) ≡ lineOutcome form (draftOf p (x .plan)) (parsedAt p (x .plan) bytes)
   pub holds : ConsistentAfter r (x′ .plan)
-  pub noted : NotedAfter p r (x .entries) (x′ .entries) (parsedAt p (x .plan) bytes .directive)
+  pub noted : NotedAfter p r (x .notes) (x′ .notes) (parsedAt p (x .plan) bytes .directive)
 
 -- The move that a line says with its numbers: `copy d a`, `set d k` or `add d a k`.
 abbrev pub moveFrom : MoveKind → ℕ → ℕ → ℕ → Move
@@ -123,14 +125,21 @@ abbrev pub moveDirective : MoveKind → Three → Option Directive
 moveDirective kind (Three.Are a b c) = some (move (moveFrom kind a b c))
 moveDirective kind Three.Bad = none
 
--- The entry that a line says with its numbers: `call job update` or `step card`.
+-- The entry that a line says with its numbers: `call job update`, `step card` or `step card n`.
 abbrev pub entryFrom : EntryKind → ℕ → ℕ → Entry
 entryFrom EntryKind.Call job u = record { kind = 0; first = job; second = u }
 entryFrom EntryKind.Step card second = record { kind = 1; first = card; second = 0 }
+entryFrom EntryKind.Run card n = record { kind = 1; first = card; second = 0 }
+
+-- How many times it comes.
+abbrev pub timesFrom : EntryKind → ℕ → ℕ
+timesFrom EntryKind.Call u = 1
+timesFrom EntryKind.Step second = 1
+timesFrom EntryKind.Run n = n
 
 -- What a line that holds an entry says, by what was read of its numbers.
 abbrev pub entryDirective : EntryKind → Three → Option Directive
-entryDirective kind (Three.Are a b c) = some (entry (entryFrom kind a b))
+entryDirective kind (Three.Are a b c) = some (entry (entryFrom kind a b) (timesFrom kind b))
 entryDirective kind Three.Bad = none
 
 -- Whether one of the words is in a block of size s.

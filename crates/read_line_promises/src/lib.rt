@@ -2,14 +2,15 @@
 // specs/ says what reading a line promises, and proofs/ has the laws behind it, kind by kind. No code.
 use spec_format::Fault;
 
-// How much of a text has been read, besides what stands in the plan's table: how many lines, jobs, blocks and entries,
-// and how many different blocks the last update writes.
+// How much of a text has been read, besides what stands in the plan's table: how many lines, jobs, blocks and single
+// entries, how many different blocks the last update writes, and how many entry lines have been noted.
 pub struct Progress {
     pub lines: usize,
     pub jobs: usize,
     pub blocks: usize,
     pub written: usize,
     pub entries: usize,
+    pub notes: usize,
 }
 
 // The answer of one line's reading: how much has then been read, or the fault and the line's number.
@@ -25,8 +26,9 @@ pub enum MoveKind {
     Add,
 }
 
-// The kinds of lines that hold an entry.
+// The kinds of lines that hold entries: `call job update`, `step card` and `step card n`.
 pub enum EntryKind {
     Call,
     Step,
+    Run,
 }

@@ -2,5 +2,5 @@
 pub mod Puts
 pub mod TabulatedParts
 pub mod PlanTable
-pub mod EntryTable
+pub mod NoteTable
 pub mod PlanIn

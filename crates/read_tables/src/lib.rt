@@ -1,5 +1,5 @@
-// Where the numbers of a plan and of a text's entries stand in the tables that are lent, and an accessor for each. The
-// code of no other crate knows a place of a table, but for where the opening words begin.
+// Where the numbers of a plan and of the notes on a text's entry lines stand in the tables that are lent, and an
+// accessor for each. The code of no other crate knows a place of a table, but for where the opening words begin.
 ghost use mathlib.Core.Path.{_≡_};
 ghost use mathlib.Core.List.{[], _∷_};
 ghost use Prim.Native.Nat.{_+_, _<_};
@@ -9,7 +9,7 @@ ghost use Rattle.read_tables.specs.Puts.{Put};
 ghost use Rattle.read_tables.specs.PlanTable.{planPlaces, updatesAt, cardsAt, prioritiesAt, countsAt, moveStart};
 ghost use Rattle.read_tables.specs.PlanTable.{sizesIn, updatesIn, jobAt, countAt, wordAt, kindAt, targetAt};
 ghost use Rattle.read_tables.specs.PlanTable.{sourceAt, amountAt, codeOf, sourceOf, amountOf, numbersOf};
-ghost use Rattle.read_tables.specs.EntryTable.{entryStart, notesOf, listedAt};
+ghost use Rattle.read_tables.specs.NoteTable.{noteStart, placesOf, noteAt};
 use spec_format::Entry;
 use spec_format::Move;
 use spec_format::Sizes;
@@ -17,8 +17,8 @@ use spec_format::Sizes;
 // How many numbers the table of a plan has.
 pub const PLAN_PLACES: usize = 4424;
 
-// How many numbers the table of a text's entries has.
-pub const ENTRY_PLACES: usize = 16000;
+// How many numbers the table of notes on a text's entry lines has.
+pub const NOTE_PLACES: usize = 20000;
 
 // Where the count of updates stands; the sizes come first.
 const UPDATES: usize = 5;
@@ -41,8 +41,8 @@ const MOVES: usize = 328;
 // How many places a move has.
 const MOVE: usize = 8;
 
-// How many places an entry has.
-const ENTRY: usize = 4;
+// How many places a note has.
+const NOTE: usize = 5;
 
 // A number as a size.
 pub fn wide(n: u32) -> usize
@@ -285,36 +285,45 @@ pub fn put_move(plan: &mut [u32; PLAN_PLACES], m: usize, x: Move)
     put(plan, at + 3, amount_of(x));
 }
 
-// Puts entry i with its line.
-pub fn note(entries: &mut [u32; ENTRY_PLACES], i: usize, e: Entry, line: u32)
+// Puts note i: an entry, how many times it comes, and its line.
+pub fn note(notes: &mut [u32; NOTE_PLACES], i: usize, e: Entry, times: u32, line: u32)
     requires { ⌜ i < 4000 ⌝ }
-    ensures { λ _. ⌜ Put (entryStart i) (notesOf (record { entry = e; line = line })) (now (entries .entry))
-        (now (entries .exit)) ⌝ }
+    ensures { λ _. ⌜ Put (noteStart i) (placesOf (record { entry = e; times = times; line = line }))
+        (now (notes .entry)) (now (notes .exit)) ⌝ }
 {
-    let at = ENTRY * i;
-    entries[at] = e.kind;
-    entries[at + 1] = e.first;
-    entries[at + 2] = e.second;
-    entries[at + 3] = line;
+    let at = NOTE * i;
+    notes[at] = e.kind;
+    notes[at + 1] = e.first;
+    notes[at + 2] = e.second;
+    notes[at + 3] = times;
+    notes[at + 4] = line;
 }
 
-// Entry i.
-pub fn entry_at(entries: &[u32; ENTRY_PLACES], i: usize) -> Entry
+// The entry of note i.
+pub fn entry_at(notes: &[u32; NOTE_PLACES], i: usize) -> Entry
     requires { ⌜ i < 4000 ⌝ }
-    ensures { λ r. ⌜ r ≡ listedAt (now (entries .entry)) i .entry ⌝ }
+    ensures { λ r. ⌜ r ≡ noteAt (now (notes .entry)) i .entry ⌝ }
 {
-    let at = ENTRY * i;
+    let at = NOTE * i;
     Entry {
-        kind: entries[at],
-        first: entries[at + 1],
-        second: entries[at + 2],
+        kind: notes[at],
+        first: notes[at + 1],
+        second: notes[at + 2],
     }
 }
 
-// The line of entry i.
-pub fn line_at(entries: &[u32; ENTRY_PLACES], i: usize) -> usize
+// How many times the entry of note i comes.
+pub fn times_at(notes: &[u32; NOTE_PLACES], i: usize) -> usize
     requires { ⌜ i < 4000 ⌝ }
-    ensures { λ r. ⌜ r ≡ listedAt (now (entries .entry)) i .line ⌝ }
+    ensures { λ r. ⌜ r ≡ noteAt (now (notes .entry)) i .times ⌝ }
 {
-    wide(entries[ENTRY * i + 3])
+    wide(notes[NOTE * i + 3])
+}
+
+// The line of note i.
+pub fn line_at(notes: &[u32; NOTE_PLACES], i: usize) -> usize
+    requires { ⌜ i < 4000 ⌝ }
+    ensures { λ r. ⌜ r ≡ noteAt (now (notes .entry)) i .line ⌝ }
+{
+    wide(notes[NOTE * i + 4])
 }

@@ -25,23 +25,24 @@ use Rattle.spec_format.specs.Reading.{
   sound,
   after,
   firstOf,
-  byNumber,
+  byRank,
   orElse,
   readLines,
   parsedIn,
 }
-use Rattle.spec_format.specs.Reading.{afterLine, listed, entriesOf, refusal, accepted, given, reading, blank}
+use Rattle.spec_format.specs.Reading.{afterLine, listed, entriesOf, Reading, refusal, accepted, given, reading, blank}
 use Rattle.spec_format.proofs.FirstFault.{one-more}
-use Rattle.spec_format.proofs.Sound.{line-listed}
+use Rattle.spec_format.proofs.Sound.{line-listed, counted-entries}
 use Rattle.read_tables.specs.PlanTable.{planPlaces, emptyPlan, sizesIn, planUpTo}
-use Rattle.read_tables.specs.EntryTable.{entryPlaces, listedIn}
+use Rattle.read_tables.specs.NoteTable.{notePlaces, listedIn}
 use Rattle.read_line_promises.specs.declared.Progress.{Progress}
 use Rattle.read_line_promises.specs.declared.LineRead.{LineRead}
 use Rattle.read_line_promises.specs.Promises.{ReadTables, draftOf, lineOutcome, parsedAt, Consistent, LineDone}
 use Rattle.read_line_promises.proofs.Lacking.{lacks-jobs}
 use Rattle.read_text.specs.declared.Cursor.{Cursor}
 use Rattle.read_text.specs.declared.Advance.{Advance}
-use Rattle.read_text.specs.Readings.{readingFrom}
+use Rattle.read_text.specs.declared.Parsed.{Parsed}
+use Rattle.read_text.specs.Readings.{entryCount, ReadTo}
 use Rattle.read_text.specs.Cursors.{linesFrom, Placed, rest, Advanced, atStart}
 
 -- What is left to read, after one line came to an outcome.
@@ -52,7 +53,7 @@ continue form ls (sound d) = readLines form d ls
 -- The lines are read one by one.
 one-by-one : (form : Form) (d : Draft) (l : Line) (ls : List Line)
     → readLines form d (l ∷ ls) ≡ continue form ls (lineOutcome form d (parsedIn d l))
-one-by-one form d l ls = go (firstOf (hasFault form d (parsedIn d l)) byNumber)
+one-by-one form d l ls = go (firstOf (hasFault form d (parsedIn d l)) byRank)
   where
     go : (o : Option Fault)
         → orElse o (d .lines + 1) (readLines form (afterLine d l) ls)
@@ -101,7 +102,7 @@ module _ (form : Form) (text : List ℕ) (c : Cursor) (x x′ : ReadTables) (end
 
 -- An outcome that is a draft is the draft after the line.
 sound-after : (form : Form) (d e : Draft) (r : ParsedLine) → sound e ≡ lineOutcome form d r → e ≡ after d (r .directive)
-sound-after form d e r = go (firstOf (hasFault form d r) byNumber)
+sound-after form d e r = go (firstOf (hasFault form d r) byRank)
   where
     go : (o : Option Fault) → sound e ≡ orElse o (d .lines + 1) (sound (after d (r .directive)))
         → e ≡ after d (r .directive)
@@ -110,7 +111,7 @@ sound-after form d e r = go (firstOf (hasFault form d r) byNumber)
 
 module _ (form : Form) (text : List ℕ) (c : Cursor) (x x′ : ReadTables) (end : ℕ) (inside : c .at < length text)
     (place : end ≡ placeOf 10 text (c .at)) (more : end < length text) (ahead : c .at ≤ end) (q : Progress)
-    (here : Placed text c (x .entries))
+    (here : Placed text c (x .notes))
     (done : LineDone form (c .progress) x x′ (take (end - c .at) (drop (c .at) text)) (LineRead.Read q)) where
   -- The line, and what it says.
   abbrev thisLine : Line
@@ -131,10 +132,10 @@ module _ (form : Form) (text : List ℕ) (c : Cursor) (x x′ : ReadTables) (end
   -- The entries noted with the line's, and those behind it, are all entries.
   entries-are : (s : ℕ)
       → entriesOf s 1 (lines text)
-      ≡ listedIn (q .entries) (x′ .entries) ++ entriesOf s (q .lines + 1) (linesFrom text (end + 1))
+      ≡ listedIn (q .notes) (x′ .notes) ++ entriesOf s (q .lines + 1) (linesFrom text (end + 1))
   entries-are s =
       let n = c .progress .lines + 1 in
-      let noted = listedIn (c .progress .entries) (x .entries) in
+      let noted = listedIn (c .progress .notes) (x .notes) in
       let behind = entriesOf s (n + 1) (linesFrom text (end + 1)) in
       here .entries s
       ∙ ap (λ ls. noted ++ entriesOf s n ls) (lines-here form text c x x′ end inside place more)
@@ -143,7 +144,7 @@ module _ (form : Form) (text : List ℕ) (c : Cursor) (x x′ : ReadTables) (end
       ∙ (λ i. sym (done .noted .more) i ++ entriesOf s (sym lines-is i + 1) (linesFrom text (end + 1)))
 
   -- The cursor behind the line is placed.
-  placed-behind : Placed text (record { progress = q; at = end + 1 }) (x′ .entries)
+  placed-behind : Placed text (record { progress = q; at = end + 1 }) (x′ .notes)
   placed-behind =
       record {
         inside = omega arith;
@@ -184,6 +185,7 @@ holds-start =
             entries-read = omega arith;
             lines-read = omega arith;
             blocks-written = omega arith;
+            notes-read = omega arith;
             in-lines = omega arith;
           };
       room = length-replicate {A = ℕ} planPlaces 0;
@@ -198,7 +200,7 @@ blank-start = refl
 
 -- At the start all is left to read.
 pub starts : (form : Form) (text : List ℕ) (c : Cursor) (t e : List ℕ) → c ≡ atStart → t ≡ emptyPlan
-    → length e ≡ entryPlaces
+    → length e ≡ notePlaces
     → Placed text c e × (Consistent (c .progress) t × (readLines form blank (lines text) ≡ rest form text c t))
 starts form text c t e first empty room =
     subst
@@ -219,10 +221,23 @@ starts form text c t e first empty room =
       (holds-start, ap (λ (d : Draft). readLines form d (lines text)) (sym blank-start)),
     ))
 
+-- The answer of a refusal, which has no entry.
+abbrev pub refusing : Fault → ℕ → Parsed
+refusing f n = record { verdict = Verdict.Refused f n; notes = 0; entries = 0 }
+
+-- It is right where the text is so refused.
+refuses : {f : Fault} {n : ℕ} {r : Reading} {t e : List ℕ} → refusal f n ≡ r → ReadTo r (refusing f n) t e
+refuses e = record { gives = e; few-notes = omega arith; counted = ap entryCount e }
+
 -- A text over the limit.
-pub too-long : (form : Form) (text : List ℕ) → 65536 < length text → refusal Fault.TooLong 0 ≡ reading form text
+over-limit : (form : Form) (text : List ℕ) → 65536 < length text → refusal Fault.TooLong 0 ≡ reading form text
 unfolding reading
-too-long form text l = rw (lt-ltb 65536 (length text) l)
+over-limit form text l = rw (lt-ltb 65536 (length text) l)
+
+-- It is refused for that.
+pub too-long : (form : Form) (text t e : List ℕ) → 65536 < length text
+    → ReadTo (reading form text) (refusing Fault.TooLong 0) t e
+too-long form text t e l = refuses (over-limit form text l)
 
 -- A text within it gives what its lines come to.
 measured : (form : Form) (text : List ℕ) → length text ≤ 65536
@@ -233,8 +248,9 @@ measured form text l = rw (le-ltb 65536 (length text) l)
 module _ (form : Form) (text : List ℕ) (c : Cursor) (x : ReadTables) (fits : length text ≤ 65536)
     (left : readLines form blank (lines text) ≡ rest form text c (x .plan)) where
   -- The text is refused by what is left to read.
-  pub gives-refusal : (f : Fault) (n : ℕ) → rest form text c (x .plan) ≡ refused f n → refusal f n ≡ reading form text
-  gives-refusal f n r = sym (measured form text fits ∙ ap (given (lines text)) (left ∙ r))
+  pub gives-refusal : (f : Fault) (n : ℕ) → rest form text c (x .plan) ≡ refused f n
+      → (t e : List ℕ) → ReadTo (reading form text) (refusing f n) t e
+  gives-refusal f n r t e = refuses (sym (measured form text fits ∙ ap (given (lines text)) (left ∙ r)))
 
   module _ (over : length text ≤ c .at) where
     -- Nothing is left to read.
@@ -243,14 +259,21 @@ module _ (form : Form) (text : List ℕ) (c : Cursor) (x : ReadTables) (fits : l
 
     -- The text ends too early.
     pub gives-early : laidOut (draftOf (c .progress) (x .plan)) ≡ false
-        → refusal Fault.Misplaced (c .progress .lines + 1) ≡ reading form text
+        → (t notes : List ℕ)
+        → ReadTo (reading form text) (refusing Fault.Misplaced (c .progress .lines + 1)) t notes
     gives-early e = gives-refusal Fault.Misplaced (c .progress .lines + 1) (rw (nothing-left, e))
 
     -- The text is accepted.
-    pub gives-plan : laidOut (draftOf (c .progress) (x .plan)) ≡ true → Placed text c (x .entries)
+    pub gives-plan : laidOut (draftOf (c .progress) (x .plan)) ≡ true → Placed text c (x .notes)
         → Consistent (c .progress) (x .plan)
-        → readingFrom (Verdict.Accepted (c .progress .lines)) (x .plan) (c .progress .entries) (x .entries)
-        ≡ reading form text
+        → ReadTo (reading form text)
+        (record {
+          verdict = Verdict.Accepted (c .progress .lines);
+          notes = c .progress .notes;
+          entries = c .progress .entries;
+        })
+        (x .plan)
+        (x .notes)
     gives-plan e here h =
         let p = c .progress in
         let z = sizesIn (x .plan) in
@@ -271,15 +294,23 @@ module _ (form : Form) (text : List ℕ) (c : Cursor) (x : ReadTables) (fits : l
         ) in
         let all-lines : length (lines text) ≡ p .lines =
         omega (arith, here .counted, ap (λ (ls : List Line). length ls) nothing-left) in
-        let all-entries : entriesOf (z .words) 1 (lines text) ≡ listedIn (p .entries) (x .entries) =
+        let all-entries : entriesOf (z .words) 1 (lines text) ≡ listedIn (p .notes) (x .notes) =
         here .entries (z .words)
-        ∙ ap (λ ls. listedIn (p .entries) (x .entries) ++ entriesOf (z .words) (p .lines + 1) ls) nothing-left
-        ∙ append-nil (listedIn (p .entries) (x .entries)) in
+        ∙ ap (λ ls. listedIn (p .notes) (x .notes) ++ entriesOf (z .words) (p .lines + 1) ls) nothing-left
+        ∙ append-nil (listedIn (p .notes) (x .notes)) in
         let is-sound : rest form text c (x .plan) ≡ sound d = rw (nothing-left, e) in
-        sym
-        (measured form text fits
+        let is : reading form text
+        ≡ accepted (planUpTo (z .jobs) (z .blocks) (x .plan)) (listedIn (p .notes) (x .notes)) (p .lines)
+        = measured form text fits
         ∙ ap (given (lines text)) (left ∙ is-sound)
-        ∙ (λ i. accepted (planUpTo (jobs-all i) (blocks-all i) (x .plan)) (all-entries i) (all-lines i)))
+        ∙ (λ i. accepted (planUpTo (jobs-all i) (blocks-all i) (x .plan)) (all-entries i) (all-lines i)) in
+        let counted : p .entries ≡ length (listedIn (p .notes) (x .notes))
+        = sym (counted-entries form (lines text) d (z .words) (left ∙ is-sound)) ∙ ap length all-entries in
+        record {
+          gives = sym is;
+          few-notes = omega (arith, h .ranged .notes-read, h .ranged .entries-read);
+          counted = counted ∙ sym (ap entryCount is);
+        }
 
 -- What holds of an answer holds of what it is.
 pub same-answer : (form : Form) (p : Progress) (x x′ : ReadTables) (bytes : List ℕ) (r y : LineRead) → r ≡ y

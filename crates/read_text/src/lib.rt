@@ -1,17 +1,17 @@
-// A whole text is read once, line by line: its plan is put into the plan's table as it is read, and its entries are
+// A whole text is read once, line by line: its plan is put into the plan's table as it is read, and its entry lines are
 // noted in theirs.
 ghost use mathlib.Core.Path.{_≡_};
 ghost use Prim.Native.Nat.{_≤_, _<_};
 ghost use lib.ListN.{length};
 ghost use Rattle.spec_format.specs.Reading.{reading};
 ghost use Rattle.read_tables.specs.PlanTable.{emptyPlan};
-ghost use Rattle.read_tables.specs.EntryTable.{entryPlaces};
+ghost use Rattle.read_tables.specs.NoteTable.{notePlaces};
 ghost use Rattle.read_line_promises.specs.Promises.{readTables, Consistent};
 ghost use Rattle.read_text.specs.Cursors.{Placed, Advanced, atStart};
-ghost use Rattle.read_text.specs.Readings.{readingFrom};
+ghost use Rattle.read_text.specs.Readings.{ReadTo};
 use read_line_promises::LineRead;
 use read_line_promises::Progress;
-use read_tables::ENTRY_PLACES;
+use read_tables::NOTE_PLACES;
 use read_tables::PLAN_PLACES;
 use spec_format::Fault;
 use spec_format::Form;
@@ -29,9 +29,11 @@ pub enum Advance {
     Refused(Fault, usize),
 }
 
-// What reading a text answers: the verdict and, where the text is accepted, how many entries were noted.
+// What reading a text answers: the verdict and, where the text is accepted, how many entry lines were noted, and how
+// many single entries they hold.
 pub struct Parsed {
     pub verdict: Verdict,
+    pub notes: usize,
     pub entries: usize,
 }
 
@@ -41,14 +43,14 @@ fn read_on(
     form: Form,
     c: Cursor,
     plan: &mut [u32; PLAN_PLACES],
-    entries: &mut [u32; ENTRY_PLACES],
+    notes: &mut [u32; NOTE_PLACES],
 ) -> Advance
     requires { ⌜ (c .at < length (now text)) × (length (now text) ≤ 65536) ⌝ }
-    requires { ⌜ Placed (now text) c (now entries) × Consistent (c .progress) (now plan) ⌝ }
+    requires { ⌜ Placed (now text) c (now notes) × Consistent (c .progress) (now plan) ⌝ }
     ensures { λ r. ⌜ Advanced form (now (text .entry)) c
-        (readTables (now (plan .entry)) (now (entries .entry)))
+        (readTables (now (plan .entry)) (now (notes .entry)))
         r
-        (readTables (now (plan .exit)) (now (entries .exit))) ⌝ }
+        (readTables (now (plan .exit)) (now (notes .exit))) ⌝ }
 {
     let p = c.progress;
     let at = c.at;
@@ -56,7 +58,7 @@ fn read_on(
     if end == text.len() {
         return Advance::Refused(Fault::Unknown, p.lines + 1);
     }
-    let read = read_line::read_line(&text[at..end], form, p, plan, entries);
+    let read = read_line::read_line(&text[at..end], form, p, plan, notes);
     match read {
         LineRead::Refused(f, n) => Advance::Refused(f, n),
         LineRead::Read(q) => Advance::Next(Cursor {
@@ -77,35 +79,38 @@ fn start() -> Cursor
             blocks: 0,
             written: 0,
             entries: 0,
+            notes: 0,
         },
         at: 0,
     }
 }
 
-// Reads a text, which is measured first, into an empty plan's table and a table of entries. Time is linear in the text.
+// Reads a text, which is measured first, into an empty plan's table and a table of notes. Time is linear in the text,
+// whatever the runs in it.
 pub fn read(
     text: &[u8],
     form: Form,
     plan: &mut [u32; PLAN_PLACES],
-    entries: &mut [u32; ENTRY_PLACES],
+    notes: &mut [u32; NOTE_PLACES],
 ) -> Parsed
-    requires { ⌜ (now plan ≡ emptyPlan) × (length (now entries) ≡ entryPlaces) ⌝ }
-    ensures { λ r. ⌜ readingFrom (r .verdict) (now (plan .exit)) (r .entries) (now (entries .exit))
-        ≡ reading form (now (text .entry)) ⌝ }
+    requires { ⌜ (now plan ≡ emptyPlan) × (length (now notes) ≡ notePlaces) ⌝ }
+    ensures { λ r. ⌜ ReadTo (reading form (now (text .entry))) r (now (plan .exit)) (now (notes .exit)) ⌝ }
 {
     let mut c = start();
     if 65536 < text.len() {
         return Parsed {
             verdict: Verdict::Refused(Fault::TooLong, 0),
+            notes: 0,
             entries: 0,
         };
     }
     while c.at < text.len() {
-        let step = read_on(text, form, c, plan, entries);
+        let step = read_on(text, form, c, plan, notes);
         match step {
             Advance::Refused(f, n) => {
                 return Parsed {
                     verdict: Verdict::Refused(f, n),
+                    notes: 0,
                     entries: 0,
                 };
             }
@@ -116,11 +121,13 @@ pub fn read(
     if read_kinds::laid_out(p, plan) {
         return Parsed {
             verdict: Verdict::Accepted(p.lines),
+            notes: p.notes,
             entries: p.entries,
         };
     }
     Parsed {
         verdict: Verdict::Refused(Fault::Misplaced, p.lines + 1),
+        notes: 0,
         entries: 0,
     }
 }

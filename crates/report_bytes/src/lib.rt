@@ -5,7 +5,7 @@ ghost use Prim.Native.Nat.{_≤_, _<_, _+_, _*_};
 ghost use lib.ListN.{length};
 ghost use Rattle.spec_text.specs.Bytes.{bytes};
 ghost use Rattle.spec_text.specs.Decimal.{decimal};
-ghost use Rattle.spec_report.specs.Report.{fieldsBehind, lineOf};
+ghost use Rattle.spec_text.specs.WrittenLines.{fieldsBehind, lineOf};
 ghost use Rattle.report_bytes.specs.Writes.{Writes};
 
 // A byte.

@@ -19,7 +19,8 @@ use Rattle.spec_machine.specs.Ranges.{StatusIn, Ranges}
 use Rattle.spec_machine.proofs.ListsByPlace.{getD-any}
 use Rattle.spec_ranges.proofs.Ranges.{status-wider, in-range}
 use Rattle.spec_report.specs.declared.End.{End}
-use Rattle.spec_report.specs.Report.{joined, lineOf, commitLines, blockLines, openLines, report, endNumber, endLine}
+use Rattle.spec_text.specs.WrittenLines.{lineOf}
+use Rattle.spec_report.specs.Report.{joined, commitLines, blockLines, openLines, report, endNumber, endLine}
 use Rattle.spec_report.specs.Outcomes.{reported, endOf, endOfRun, runOutcome}
 use Rattle.step_cells.specs.declared.Registers.{Registers}
 use Rattle.step_cells.specs.Tables.{Tables, lent, machineOf}

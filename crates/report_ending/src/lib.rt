@@ -4,7 +4,7 @@ ghost use mathlib.Core.Path.{_≡_};
 ghost use mathlib.Core.List.{[]};
 ghost use Prim.Native.Nat.{_≤_};
 ghost use Rattle.spec_format.specs.Faults.{numberOf};
-ghost use Rattle.spec_report.specs.Report.{endNumber, endLine, endEntry};
+ghost use Rattle.spec_report.specs.Report.{largestNumber, endNumber, endLine, endEntry};
 ghost use Rattle.spec_report.specs.Outcomes.{reported, endOf};
 ghost use Rattle.step_cells.specs.Tables.{lent};
 ghost use Rattle.run_judge.specs.Rulings.{haltOf};
@@ -32,13 +32,14 @@ pub struct Ended {
 
 // The number of a fault in the table.
 pub fn fault_number(fault: Fault) -> usize
-    ensures { λ r. ⌜ (r ≡ numberOf fault) × (r ≤ 15) ⌝ }
+    ensures { λ r. ⌜ (r ≡ numberOf fault) × (r ≤ largestNumber) ⌝ }
 {
     match fault {
         Fault::TooLong => 1,
         Fault::Unknown => 2,
         Fault::Misplaced => 3,
         Fault::Malformed => 4,
+        Fault::BadRun => 16,
         Fault::TooMany => 5,
         Fault::BadSize => 6,
         Fault::BadJob => 7,
@@ -50,7 +51,7 @@ pub fn fault_number(fault: Fault) -> usize
 
 // The number of an end in the table.
 pub fn end_number(end: End) -> usize
-    ensures { λ r. ⌜ (r ≡ endNumber end) × (r ≤ 15) ⌝ }
+    ensures { λ r. ⌜ (r ≡ endNumber end) × (r ≤ largestNumber) ⌝ }
 {
     match end {
         End::Accepted(n) => 0,

@@ -9,7 +9,8 @@ use Rattle.spec_text.specs.Bytes.{bytes}
 use Rattle.spec_text.specs.Decimal.{decimal}
 use Rattle.spec_format.specs.declared.Sizes.{Sizes}
 use Rattle.spec_machine.specs.Machine.{blockIn}
-use Rattle.spec_report.specs.Report.{fieldsBehind, lineOf, statusBytes, joined}
+use Rattle.spec_text.specs.WrittenLines.{fieldsBehind, lineOf}
+use Rattle.spec_report.specs.Report.{statusBytes, joined}
 
 -- The commit lines of rows of an entry, a job and an update.
 abbrev pub rowLines : List (List ℕ) → List ℕ

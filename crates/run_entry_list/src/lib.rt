@@ -1,34 +1,11 @@
-// A text's entries, noted while it was read, put into records and run by the one loop.
-ghost use mathlib.Core.Path.{_≡_};
+// A text's single entries, as records in an array, run by the one loop.
 ghost use Prim.Native.Nat.{_≤_};
 ghost use lib.ListN.{take};
-ghost use Rattle.read_tables.specs.EntryTable.{listedIn};
 ghost use Rattle.step_cells.specs.Tables.{lent};
 ghost use Rattle.run_loop.specs.RunReached.{Starts, Ran};
-ghost use Rattle.run_entry_list.specs.EntriesAlone.{entriesIn};
-use read_tables::ENTRY_PLACES;
 use read_tables::PLAN_PLACES;
 use spec_format::Entry;
 use step_cells::CELL_PLACES;
-
-// The first n entries of their table as records.
-pub fn records_of(entries: &[u32; ENTRY_PLACES], n: usize) -> [Entry; 4000]
-    requires { ⌜ n ≤ 4000 ⌝ }
-    ensures { λ r. ⌜ take n r ≡ entriesIn (listedIn n (now (entries .entry))) ⌝ }
-{
-    let none = Entry {
-        kind: 0,
-        first: 0,
-        second: 0,
-    };
-    let mut records = [none; 4000];
-    let mut i = 0;
-    while i < n {
-        records[i] = read_tables::entry_at(entries, i);
-        i += 1;
-    }
-    records
-}
 
 // The first n records of an array run, one after another.
 pub fn run_list<'a, 'b>(

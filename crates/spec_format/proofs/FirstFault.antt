@@ -1,115 +1,170 @@
--- "The first line with a fault counts, and in it the lowest number." A text is refused with a fault and a line exactly
--- when the line is the first with a fault and the fault the lowest in it (refused-first), and it is accepted exactly
--- when no line has a fault and it does not end too early (accepted-faultless). The argument: byNumber goes through the
--- faults in the order of their numbers, so the one that is found in a line is the lowest there. By induction over the
--- lines, a reading stops in the first line where one is found, and the text as a whole, which is line 0, goes before
--- all lines. So every reading is right: a refusal names the first fault, and an accepted text has none. There is only
--- one first fault, so a text that has one is refused by no other and is not accepted, and a text that has none is not
--- refused. In the lemmas `has` says which faults are there, in one place or in each place from 0 on. Assumes nothing.
-use Prim.Native.Nat.{ℕ, zero, suc, pred, _+_, _<_}
+-- "The first line with a fault counts", and in it the fault that is judged first. A text is refused with a fault and a
+-- line exactly when the line is the first with a fault and the fault the first in it by rank (refused-first), and it is
+-- accepted exactly when no line has a fault and it does not end too early (accepted-faultless). The argument: byRank
+-- goes through all faults of a line in the order of their ranks, so the one that is found has the lowest rank there. By
+-- induction over the lines, a reading stops in the first line where one is found, and the text as a whole, which is
+-- line 0, goes before all lines. So every reading is right: a refusal names the first fault, and an accepted text has
+-- none. There is only one first fault, so a text that has one is refused by no other and is not accepted, and a text
+-- that has none is not refused. In the lemmas `has` says which faults are there, in one place or in each place from 0
+-- on. Assumes nothing.
+use Prim.Native.Nat.{ℕ, zero, suc, _+_, _<_}
 use native.Mathlib.Omega.{arith}
-use native.Mathlib.Decide.{ℕ-discrete}
 use mathlib.Core.Path.{_≡_, refl, sym, _∙_, ap}
-use mathlib.Core.Logic.{_↔_}
+use mathlib.Core.Logic.{_↔_, _⊎_, inl, inr}
 use mathlib.Core.Bool.{Bool, true, false, cond, not, _&&_, true≢false}
 use mathlib.Core.List.{List, [], _∷_}
 use mathlib.Core.Option.{Option, none, some}
-use lib.Dec.{ltb, eqb}
-use lib.ListN.{length, take, drop, getD}
+use lib.Dec.{ltb}
+use lib.ListN.{length, take, drop}
 use borrow.Author.Tests.{eq-eqb, ne-eqb}
 use Rattle.spec_text.specs.Lines.{Line, lines}
 use Rattle.spec_format.specs.declared.Fault.{Fault}
 use Rattle.spec_format.specs.declared.Form.{Form}
 use Rattle.spec_format.specs.Plan.{Plan, Listed}
 use Rattle.spec_format.specs.ParsedLines.{Directive, ParsedLine}
-use Rattle.spec_format.specs.Faults.{Draft, numberOf, hasFault, laidOut}
-use Rattle.spec_format.specs.Reading.{blank, after, parsedIn, afterLine, byNumber, firstOf}
+use Rattle.spec_format.specs.Faults.{Draft, rank, hasFault, laidOut}
+use Rattle.spec_format.specs.Reading.{blank, after, parsedIn, afterLine, byRank, firstOf}
 use Rattle.spec_format.specs.Reading.{ReadOutcome, refused, sound, orElse, readLines}
 use Rattle.spec_format.specs.Reading.{Reading, refusal, accepted, given, longest, reading}
-use Rattle.spec_format.specs.FirstFault.{draftAfter, nextHas, faultAt, First, Faultless}
+use Rattle.spec_format.specs.FirstFault.{sameFault, draftAfter, nextHas, faultAt, First, Faultless}
 
 -- A test cannot come out both ways.
 clash : {b : Bool} → b ≡ true → b ≡ false → ⊥
 clash p q = true≢false (sym p ∙ q)
 
--- All faults, by their numbers.
+-- All faults, by their ranks.
 abbrev faults : List Fault
-faults = Fault.TooLong ∷ byNumber
+faults = Fault.TooLong ∷ byRank
 
--- The fault with a number.
-abbrev faultOf : ℕ → Fault
-faultOf n = getD faults (pred n) Fault.TooLong
+-- A fault is in a list.
+abbrev In : Fault → List Fault → Type 0
+In f [] = ⊥
+In f (g ∷ gs) = (f ≡ g) ⊎ In f gs
 
--- Each fault has a number from 1 to 10, and is the fault with that number.
-numbered : (f : Fault) → (0 < numberOf f) × (numberOf f < 11) × (faultOf (numberOf f) ≡ f)
-numbered Fault.TooLong = (omega arith, omega arith, refl)
-numbered Fault.Unknown = (omega arith, omega arith, refl)
-numbered Fault.Misplaced = (omega arith, omega arith, refl)
-numbered Fault.Malformed = (omega arith, omega arith, refl)
-numbered Fault.TooMany = (omega arith, omega arith, refl)
-numbered Fault.BadSize = (omega arith, omega arith, refl)
-numbered Fault.BadJob = (omega arith, omega arith, refl)
-numbered Fault.SameJob = (omega arith, omega arith, refl)
-numbered Fault.BadWord = (omega arith, omega arith, refl)
-numbered Fault.TooManyBlocks = (omega arith, omega arith, refl)
+-- Every fault is in the list of all.
+all-in : (f : Fault) → In f faults
+all-in Fault.TooLong = inl refl
+all-in Fault.Unknown = inr (inl refl)
+all-in Fault.Misplaced = inr (inr (inl refl))
+all-in Fault.Malformed = inr (inr (inr (inl refl)))
+all-in Fault.BadRun = inr (inr (inr (inr (inl refl))))
+all-in Fault.TooMany = inr (inr (inr (inr (inr (inl refl)))))
+all-in Fault.BadSize = inr (inr (inr (inr (inr (inr (inl refl))))))
+all-in Fault.BadJob = inr (inr (inr (inr (inr (inr (inr (inl refl)))))))
+all-in Fault.SameJob = inr (inr (inr (inr (inr (inr (inr (inr (inl refl))))))))
+all-in Fault.BadWord = inr (inr (inr (inr (inr (inr (inr (inr (inr (inl refl)))))))))
+all-in Fault.TooManyBlocks = inr (inr (inr (inr (inr (inr (inr (inr (inr (inr (inl refl))))))))))
 
--- No two faults have the same number.
-same-number : (f g : Fault) → numberOf f ≡ numberOf g → f ≡ g
-same-number f g e = sym (numbered f .2) ∙ ap faultOf e ∙ numbered g .2
+-- A list goes through faults by their ranks, each above n and above the one before.
+abbrev Rising : ℕ → List Fault → Type 0
+Rising n [] = Unit {0}
+Rising n (f ∷ fs) = (n < rank f) × Rising (rank f) fs
+
+-- All faults do, above 0.
+all-rising : Rising 0 faults
+all-rising = (
+  omega arith,
+  (
+    omega arith,
+    (
+      omega arith,
+      (
+        omega arith,
+        (omega arith, (omega arith, (omega arith, (omega arith, (omega arith, (omega arith, (omega arith, tt))))))),
+      ),
+    ),
+  ),
+)
+
+-- A fault of such a list has a rank above n.
+above : (n : ℕ) (l : List Fault) (g : Fault) → Rising n l → In g l → n < rank g
+above n [] g rising there = absurd there
+above n (f ∷ fs) g rising (inl e) = rw e (rising .0)
+above n (f ∷ fs) g rising (inr there) = omega (arith, rising .0, above (rank f) fs g (rising .1) there)
+
+-- No two faults of such a list have the same rank,
+same-in :
+    (n : ℕ) (l : List Fault) (f g : Fault) → Rising n l → In f l → In g l → rank f ≡ rank g → f ≡ g
+same-in n [] f g rising there here e = absurd there
+same-in n (h ∷ hs) f g rising (inl p) (inl q) e = p ∙ sym q
+same-in n (h ∷ hs) f g rising (inl p) (inr q) e =
+    absurd (omega (arith, ap rank p, e, above (rank h) hs g (rising .1) q))
+same-in n (h ∷ hs) f g rising (inr p) (inl q) e =
+    absurd (omega (arith, ap rank q, e, above (rank h) hs f (rising .1) p))
+same-in n (h ∷ hs) f g rising (inr p) (inr q) e = same-in (rank h) hs f g (rising .1) p q e
+
+-- so no two faults do.
+same-rank : (f g : Fault) → rank f ≡ rank g → f ≡ g
+same-rank f g e = same-in 0 faults f g all-rising (all-in f) (all-in g) e
 
 -- No fault is there.
 abbrev pub Clear : (Fault → Bool) → Type 0
 Clear has = (g : Fault) → has g ≡ false
 
--- No fault with a number below n is there.
-abbrev pub ClearBelow : ℕ → (Fault → Bool) → Type 0
-ClearBelow n has = (g : Fault) → numberOf g < n → has g ≡ false
-
--- A fault is there, and none with a lower number.
+-- A fault is there, and none with a lower rank.
 pub record Lowest (has : Fault → Bool) (f : Fault) : Type 0 where
   pub here : has f ≡ true
-  pub lower : ClearBelow (numberOf f) has
+  pub sooner : (g : Fault) → rank g < rank f → has g ≡ false
 
--- What is found is the lowest fault, and where nothing is found no fault is there.
+-- What is found is the fault with the lowest rank, and where nothing is found no fault is there.
 abbrev pub Found : (Fault → Bool) → Option Fault → Type 0
 Found has none = Clear has
 Found has (some f) = Lowest has f
 
--- A list goes through the faults by their numbers, from n to 10.
-abbrev Through : ℕ → List Fault → Type 0
-Through n [] = n ≡ 11
-Through n (f ∷ fs) = (numberOf f ≡ n) × Through (suc n) fs
+-- The same of the faults of a list.
+abbrev FoundIn : (Fault → Bool) → List Fault → Option Fault → Type 0
+FoundIn has l none = (g : Fault) → In g l → has g ≡ false
+FoundIn has l (some f) = (has f ≡ true) × ((g : Fault) → In g l → rank g < rank f → has g ≡ false)
 
--- The first fault of such a list is the lowest, where no fault below the list's numbers is there.
-first-lowest :
-    (has : Fault → Bool) (l : List Fault) (n : ℕ) → Through n l → ClearBelow n has → Found has (firstOf has l)
-first-lowest has [] n end below = λ g. below g (omega (arith, numbered g .1))
-first-lowest has (f ∷ fs) n through below = go (has f) refl (first-lowest has fs (suc n) (through .1))
+-- One fault more in front, which is not there.
+found-more :
+    (has : Fault → Bool) (f : Fault) (fs : List Fault) (x : Option Fault) → has f ≡ false → FoundIn has fs x
+    → FoundIn has (f ∷ fs) x
+found-more has f fs none e rest = go
   where
-    next : has f ≡ false → (g : Fault) → numberOf g < suc n → Dec (numberOf g ≡ numberOf f) → has g ≡ false
-    next e g h (yes s) = rw (same-number g f s) e
-    next e g h (no s) = below g (omega arith)
+    go : (g : Fault) → In g (f ∷ fs) → has g ≡ false
+    go g (inl same) = rw same e
+    go g (inr there) = rest g there
+found-more has f fs (some h) e rest = (rest .0, go)
+  where
+    go : (g : Fault) → In g (f ∷ fs) → rank g < rank h → has g ≡ false
+    go g (inl same) l = rw same e
+    go g (inr there) l = rest .1 g there l
 
-    go :
-        (b : Bool) → has f ≡ b → (ClearBelow (suc n) has → Found has (firstOf has fs))
-        → Found has (cond b (some f) (firstOf has fs))
-    go true e rest = record { here = e; lower = λ g h. below g (omega arith) }
-    go false e rest = rest (λ g h. next e g h (ℕ-discrete (numberOf g) (numberOf f)))
+-- The first fault of a list that goes up by rank is the lowest of the list.
+first-lowest : (has : Fault → Bool) (l : List Fault) (n : ℕ) → Rising n l → FoundIn has l (firstOf has l)
+first-lowest has [] n rising = λ g there. absurd there
+first-lowest has (f ∷ fs) n rising = go (has f) refl (first-lowest has fs (rank f) (rising .1))
+  where
+    none-before : (g : Fault) → In g (f ∷ fs) → rank g < rank f → has g ≡ false
+    none-before g (inl same) l = absurd (omega (arith, ap rank same, l))
+    none-before g (inr there) l = absurd (omega (arith, l, above (rank f) fs g (rising .1) there))
+
+    go : (b : Bool) → has f ≡ b → FoundIn has fs (firstOf has fs)
+        → FoundIn has (f ∷ fs) (cond b (some f) (firstOf has fs))
+    go true e rest = (e, none-before)
+    go false e rest = found-more has f fs (firstOf has fs) e rest
+
+-- What is found among all faults is the lowest of all.
+of-all : (has : Fault → Bool) (x : Option Fault) → FoundIn has faults x → Found has x
+of-all has none found = λ g. found g (all-in g)
+of-all has (some f) found = record { here = found .0; sooner = λ g l. found .1 g (all-in g) l }
 
 -- What is found in a line is its lowest fault.
 pub line-lowest :
-    (form : Form) (d : Draft) (r : ParsedLine) → Found (hasFault form d r) (firstOf (hasFault form d r) byNumber)
+    (form : Form) (d : Draft) (r : ParsedLine) → Found (hasFault form d r) (firstOf (hasFault form d r) byRank)
 line-lowest form d r =
-    first-lowest (hasFault form d r) faults 1 (omega arith) (λ g h. absurd (omega (arith, numbered g .0)))
+    of-all (hasFault form d r) (firstOf (hasFault form d r) faults)
+    (first-lowest (hasFault form d r) faults 0 all-rising)
 
 -- Where only f can be there, by one test: f is the lowest where the test passes, and none is there where it fails.
-sole : (f : Fault) (b : Bool) → Found (λ g. eqb (numberOf g) (numberOf f) && b) (cond b (some f) none)
+sole : (f : Fault) (b : Bool) → Found (λ g. sameFault g f && b) (cond b (some f) none)
 sole f true =
     record {
-      here = rw (eq-eqb (numberOf f) (numberOf f) refl);
-      lower = λ g h. rw (ne-eqb (numberOf g) (numberOf f) (omega arith));
+      here = rw (eq-eqb (rank f) (rank f) refl);
+      sooner = λ g h. rw (ne-eqb (rank g) (rank f) (omega arith));
     }
-sole f false = λ g. go (eqb (numberOf g) (numberOf f))
+sole f false = λ g. go (sameFault g f)
   where
     go : (a : Bool) → (a && false) ≡ false
     go true = refl
@@ -172,7 +227,7 @@ lines-right form d [] = go (laidOut d) (sole Fault.Misplaced (not (laidOut d)))
     go false lowest = (0, omega arith, at-once lowest)
 lines-right form d (l ∷ ls) =
     right-step (λ i. nextHas form (draftAfter d (take i (l ∷ ls))) (drop i (l ∷ ls))) (d .lines + 1)
-    (firstOf (hasFault form d (parsedIn d l)) byNumber) (readLines form (afterLine d l) ls)
+    (firstOf (hasFault form d (parsedIn d l)) byRank) (readLines form (afterLine d l) ls)
     (line-lowest form d (parsedIn d l))
     (rw (one-more d (parsedIn d l .directive)) at (lines-right form (afterLine d l) ls))
 
@@ -207,9 +262,9 @@ reading-right form text = go (ltb longest (length text)) (sole Fault.TooLong (lt
     go false clear =
         given-right has (lines text) rest (right-step has 0 none rest clear (lines-right form blank (lines text)))
 
--- Of two that are lowest, neither has the lower number.
-not-lower : {has : Fault → Bool} {f g : Fault} → Lowest has f → Lowest has g → ¬ (numberOf f < numberOf g)
-not-lower {f = f} a b h = clash (a .here) (b .lower f h)
+-- Of two that are lowest, neither has the lower rank.
+not-sooner : {has : Fault → Bool} {f g : Fault} → Lowest has f → Lowest has g → ¬ (rank f < rank g)
+not-sooner {f = f} a b h = clash (a .here) (b .sooner f h)
 
 -- Of two that lead, neither stands in an earlier place.
 not-earlier : {has : ℕ → Fault → Bool} {i j : ℕ} {f g : Fault} → Leads has i f → Leads has j g → ¬ (i < j)
@@ -221,9 +276,9 @@ one-leads :
 one-leads {has} {i} {j} {f} {g} a b =
     let e : i ≡ j = omega (arith, not-earlier a b, not-earlier b a) in
     let c : Lowest (has i) g = rw e (b .lowest) in
-    cc (same-number f g (omega (arith, not-lower (a .lowest) c, not-lower c (a .lowest))))
+    cc (same-rank f g (omega (arith, not-sooner (a .lowest) c, not-sooner c (a .lowest))))
 
--- A text is refused with (f, i) exactly when i is the first line with a fault and f the lowest in it.
+-- A text is refused with (f, i) exactly when i is the first line with a fault and f the one in it that is judged first.
 pub refused-first :
     (form : Form) (text : List ℕ) (f : Fault) (i : ℕ) → (reading form text ≡ refusal f i) ↔ First form text i f
 refused-first form text f i = (there, back)
@@ -231,13 +286,13 @@ refused-first form text f i = (there, back)
     there : reading form text ≡ refusal f i → First form text i f
     there e =
         let leads : Leads (faultAt form text) i f = rw e at (reading-right form text) in
-        record { here = leads .lowest .here; earlier = leads .earlier; lower = leads .lowest .lower }
+        record { here = leads .lowest .here; earlier = leads .earlier; sooner = leads .lowest .sooner }
 
     back : First form text i f → reading form text ≡ refusal f i
     back first = go (reading form text) refl (reading-right form text)
       where
         leads : Leads (faultAt form text) i f
-        leads = record { lowest = record { here = first .here; lower = first .lower }; earlier = first .earlier }
+        leads = record { lowest = record { here = first .here; sooner = first .sooner }; earlier = first .earlier }
 
         go :
             (r : Reading) → reading form text ≡ r → RightReading (faultAt form text) r

@@ -10,15 +10,16 @@ use mathlib.Core.Bool.{Bool, true, false, cond}
 use mathlib.Core.List.{List, [], _∷_, _++_, map}
 use mathlib.Core.Option.{Option, none, some}
 use lib.Dec.{ltb, eqb}
-use lib.ListN.{length, getD}
+use lib.ListN.{length, getD, replicate}
 use borrow.Author.Tests.{ltb-false}
 use Rattle.spec_text.specs.Lines.{Line, lines, inFront, split, asLines}
 use Rattle.spec_format.specs.declared.Fault.{Fault}
 use Rattle.spec_format.specs.declared.Form.{Form}
+use Rattle.spec_format.specs.declared.Entry.{Entry}
 use Rattle.spec_format.specs.Plan.{Plan, Listed}
 use Rattle.spec_format.specs.ParsedLines.{Directive, plan, job, block, update, move, entry, parsedOf}
 use Rattle.spec_format.specs.Faults.{Draft, laidOut, hasFault}
-use Rattle.spec_format.specs.Reading.{blank, parsedIn, afterLine, byNumber, firstOf}
+use Rattle.spec_format.specs.Reading.{blank, parsedIn, afterLine, byRank, firstOf}
 use Rattle.spec_format.specs.Reading.{ReadOutcome, refused, sound, orElse, readLines, listed, entriesOf}
 use Rattle.spec_format.specs.Reading.{Reading, refusal, accepted, given, longest, reading}
 use Rattle.spec_format.proofs.FirstFault.{one-more}
@@ -54,7 +55,15 @@ few-lines text = split-lines 10 text
 abbrev lineAt : List Listed → ℕ → ℕ
 lineAt es i = getD (map (λ (l : Listed). l .line) es) i 0
 
--- The entry of line n, in front of entries that stand before line m.
+-- Entries of line n, in front of entries that stand before line m.
+run-low :
+    (n m k : ℕ) (e : Entry) (es : List Listed) → n < m → ((i : ℕ) → lineAt es i < m)
+    → (i : ℕ) → lineAt (replicate k (record { entry = e; line = n }) ++ es) i < m
+run-low n m zero e es h low i = low i
+run-low n m (suc k) e es h low zero = h
+run-low n m (suc k) e es h low (suc i) = run-low n m k e es h low i
+
+-- The entries of line n, in front of entries that stand before line m.
 listed-low :
     (n m : ℕ) (x : Option Directive) (es : List Listed) → n < m → ((i : ℕ) → lineAt es i < m)
     → (i : ℕ) → lineAt (listed n x ++ es) i < m
@@ -64,8 +73,7 @@ listed-low n m (some (job j)) es h low i = low i
 listed-low n m (some (block ws)) es h low i = low i
 listed-low n m (some update) es h low i = low i
 listed-low n m (some (move k)) es h low i = low i
-listed-low n m (some (entry e)) es h low zero = h
-listed-low n m (some (entry e)) es h low (suc i) = low i
+listed-low n m (some (entry e k)) es h low i = run-low n m k e es h low i
 
 -- The entries of lines that are numbered from n on stand before line m, where the lines do.
 entries-low :
@@ -96,7 +104,7 @@ lines-refused :
     (form : Form) (d : Draft) (ls : List Line) (m : ℕ) → d .lines + length ls < m → LowOutcome m (readLines form d ls)
 lines-refused form d [] m h = end-refused d (laidOut d) (d .lines + 1) m (omega arith)
 lines-refused form d (l ∷ ls) m h =
-    or-refused (firstOf (hasFault form d (parsedIn d l)) byNumber) (d .lines + 1) m (readLines form (afterLine d l) ls)
+    or-refused (firstOf (hasFault form d (parsedIn d l)) byRank) (d .lines + 1) m (readLines form (afterLine d l) ls)
     (omega arith)
     (lines-refused form (afterLine d l) ls m (omega (arith, one-more d (parsedIn d l .directive))))
 

@@ -4,7 +4,7 @@
 -- range. A job, a block, an update, a move and an entry each stand where the plan lacks one or has room for it, and are
 -- tested by the rows of the table; a block line that can be read has just S words. By induction over the lines,
 -- SoundSoFar holds at the end, where the text is laid out: at most N jobs and B blocks are then all of them. The
--- entries that are listed are the lines that the draft has counted as entries. Assumes nothing.
+-- single entries that are listed are those that the draft has counted (counted-entries). Assumes nothing.
 use Prim.Native.Nat.{ℕ, zero, suc, _+_, _*_, _≤_, _<_}
 use native.Mathlib.Omega.{arith}
 use native.Mathlib.Decide.{decLt}
@@ -13,7 +13,7 @@ use mathlib.Core.Bool.{Bool, true, false, cond, not, _&&_, _||_, true≢false}
 use mathlib.Core.List.{List, [], _∷_, _++_}
 use mathlib.Core.Option.{Option, none, some}
 use lib.Dec.{ltb, leb, eqb}
-use lib.ListN.{length, getD, length-append, List·getD-append, List·getD-eq-default}
+use lib.ListN.{length, getD, length-append, length-replicate, List·getD-append, List·getD-eq-default}
 use lib.Seq.{getD-at}
 use borrow.Author.Tests.{ltb-true, ltb-false, leb-true, leb-false, eqb-true, eq-eqb, not-true, not-false}
 use Rattle.spec_text.specs.Lines.{Line, lines, fields, numbers, andThen}
@@ -30,10 +30,10 @@ use Rattle.spec_format.specs.declared.Entry.{Entry}
 use Rattle.spec_format.specs.Plan.{Plan, Listed, any, named, blocksWritten}
 use Rattle.spec_format.specs.Kinds.{kindOf}
 use Rattle.spec_format.specs.ParsedLines.{Directive, plan, job, block, update, move, entry}
-use Rattle.spec_format.specs.ParsedLines.{numberCount, directiveOf, parsedFrom, parsedOf}
+use Rattle.spec_format.specs.ParsedLines.{numberCount, numbersFor, directiveOf, parsedFrom, parsedOf}
 use Rattle.spec_format.specs.Faults.{Draft, laidOut, lacksJobs, lacksBlocks, takesEntries, lastOf, mostEntries}
 use Rattle.spec_format.specs.Faults.{within, inRange, taken, someFrom, hasFault}
-use Rattle.spec_format.specs.Reading.{blank, addToLast, after, parsedIn, afterLine, byNumber, firstOf}
+use Rattle.spec_format.specs.Reading.{blank, addToLast, after, parsedIn, afterLine, byRank, firstOf}
 use Rattle.spec_format.specs.Reading.{ReadOutcome, refused, sound, orElse, readLines, listed, entriesOf}
 use Rattle.spec_format.specs.Reading.{Reading, refusal, accepted, given, longest, reading}
 use Rattle.spec_format.specs.Sound.{Sound}
@@ -361,11 +361,11 @@ module _ (d : Draft) (safe : SoundSoFar d) where
         few-entries = safe .few-entries;
       }
 
-  -- An entry that may stand and is not one too many.
+  -- An entry that may stand, and that comes not too often.
   entry-kept :
-      (form : Form) (e : Entry) → (takesEntries form && laidOut d) ≡ true → leb mostEntries (d .entries) ≡ false
-      → SoundSoFar (after d (some (entry e)))
-  entry-kept form e stands few =
+      (form : Form) (e : Entry) (n : ℕ) → (takesEntries form && laidOut d) ≡ true
+      → ltb mostEntries (d .entries + n) ≡ false → SoundSoFar (after d (some (entry e n)))
+  entry-kept form e n stands few =
       let begun : 0 < d .lines = laid-out d (both (takesEntries form) (laidOut d) stands .1) .0 in
       record {
         ranged = λ h. safe .ranged begun;
@@ -374,7 +374,7 @@ module _ (d : Draft) (safe : SoundSoFar d) where
         jobs-fit = safe .jobs-fit;
         blocks-fit = safe .blocks-fit;
         updates-fit = safe .updates-fit;
-        few-entries = omega (arith, leb-false mostEntries (d .entries) few);
+        few-entries = ltb-false mostEntries (d .entries + n) few;
       }
 
 -- Numbers that could be read are n of them.
@@ -397,35 +397,35 @@ sized (suc n) (f ∷ fs) = sized-more n (number f) (numbers n fs) (sized n fs)
 
 -- A line without a fault, by its kind and the numbers that were read behind it.
 kept :
-    (form : Form) (d : Draft) (ended : Bool) (k : Kind) (o : Option (List ℕ)) → SoundSoFar d
-    → Sized (numberCount (d .plan .sizes .words) k) o
+    (form : Form) (d : Draft) (ended : Bool) (k : Kind) (fs : List (List ℕ)) (o : Option (List ℕ)) → SoundSoFar d
+    → Sized (numberCount (d .plan .sizes .words) k fs) o
     → Clear (hasFault form d (record { ended = ended; kind = k; directive = directiveOf k o }))
     → SoundSoFar (after d (directiveOf k o))
-kept form d ended k none safe size clear = absurd (true≢false (clear Fault.Malformed))
-kept form d ended Kind.Plan (some ns) safe size clear =
+kept form d ended k fs none safe size clear = absurd (true≢false (clear Fault.Malformed))
+kept form d ended Kind.Plan fs (some ns) safe size clear =
     plan-kept d safe _ (not-false _ (clear Fault.Misplaced)) (not-false _ (clear Fault.BadSize))
-kept form d ended Kind.Job (some ns) safe size clear =
+kept form d ended Kind.Job fs (some ns) safe size clear =
     job-kept d safe _ (not-false _ (clear Fault.Misplaced)) (clear Fault.BadJob) (clear Fault.SameJob)
-kept form d ended Kind.Block (some ns) safe size clear =
+kept form d ended Kind.Block fs (some ns) safe size clear =
     block-kept d safe ns size (not-false _ (clear Fault.Misplaced))
-kept form d ended Kind.Update (some ns) safe size clear =
+kept form d ended Kind.Update fs (some ns) safe size clear =
     update-kept d safe (not-false _ (clear Fault.Misplaced)) (clear Fault.TooMany)
-kept form d ended Kind.Copy (some ns) safe size clear =
+kept form d ended Kind.Copy fs (some ns) safe size clear =
     move-kept d safe _ (not-false _ (clear Fault.Misplaced)) (clear Fault.TooMany) (clear Fault.BadWord)
     (clear Fault.TooManyBlocks)
-kept form d ended Kind.Set (some ns) safe size clear =
+kept form d ended Kind.Set fs (some ns) safe size clear =
     move-kept d safe _ (not-false _ (clear Fault.Misplaced)) (clear Fault.TooMany) (clear Fault.BadWord)
     (clear Fault.TooManyBlocks)
-kept form d ended Kind.Add (some ns) safe size clear =
+kept form d ended Kind.Add fs (some ns) safe size clear =
     move-kept d safe _ (not-false _ (clear Fault.Misplaced)) (clear Fault.TooMany) (clear Fault.BadWord)
     (clear Fault.TooManyBlocks)
-kept form d ended Kind.Call (some ns) safe size clear =
-    entry-kept d safe form (record { kind = 0; first = getD ns 0 0; second = getD ns 1 0 })
+kept form d ended Kind.Call fs (some ns) safe size clear =
+    entry-kept d safe form (record { kind = 0; first = getD ns 0 0; second = getD ns 1 0 }) 1
     (not-false _ (clear Fault.Misplaced)) (clear Fault.TooMany)
-kept form d ended Kind.Step (some ns) safe size clear =
-    entry-kept d safe form (record { kind = 1; first = getD ns 0 0; second = 0 })
+kept form d ended Kind.Step fs (some ns) safe size clear =
+    entry-kept d safe form (record { kind = 1; first = getD ns 0 0; second = 0 }) (getD ns 1 1)
     (not-false _ (clear Fault.Misplaced)) (clear Fault.TooMany)
-kept form d ended Kind.Unknown (some ns) safe size clear = absurd (true≢false (clear Fault.Malformed))
+kept form d ended Kind.Unknown fs (some ns) safe size clear = absurd (true≢false (clear Fault.Malformed))
 
 -- A line's fields without a fault.
 fields-kept :
@@ -434,8 +434,8 @@ fields-kept :
     → SoundSoFar (after d (parsedFrom (d .plan .sizes .words) ended fs .directive))
 fields-kept form d ended [] safe clear = absurd (true≢false (clear Fault.Malformed))
 fields-kept form d ended (f ∷ fs) safe clear =
-    kept form d ended (kindOf f) (numbers (numberCount (d .plan .sizes .words) (kindOf f)) fs) safe
-    (sized (numberCount (d .plan .sizes .words) (kindOf f)) fs) clear
+    kept form d ended (kindOf f) fs (numbersFor (d .plan .sizes .words) (kindOf f) fs) safe
+    (sized (numberCount (d .plan .sizes .words) (kindOf f) fs) fs) clear
 
 -- A line without a fault.
 line-kept :
@@ -449,10 +449,10 @@ block-listed : (n : ℕ) (o : Option (List ℕ)) → listed n (directiveOf Kind.
 block-listed n none = refl
 block-listed n (some ns) = refl
 
--- The entry of a line of some kind does not depend on how many words a block has.
+-- The entries of a line of some kind do not depend on how many words a block has.
 kind-listed :
     (s t n : ℕ) (k : Kind) (fs : List (List ℕ))
-    → listed n (directiveOf k (numbers (numberCount s k) fs)) ≡ listed n (directiveOf k (numbers (numberCount t k) fs))
+    → listed n (directiveOf k (numbersFor s k fs)) ≡ listed n (directiveOf k (numbersFor t k fs))
 kind-listed s t n Kind.Plan fs = refl
 kind-listed s t n Kind.Job fs = refl
 kind-listed s t n Kind.Block fs = block-listed n (numbers s fs) ∙ sym (block-listed n (numbers t fs))
@@ -476,6 +476,10 @@ pub line-listed : (s t n : ℕ) (l : Line) → listed n (parsedOf s l .directive
 unfolding parsedOf
 line-listed s t n l = fields-listed s t n (l .ended) (fields (l .bytes))
 
+-- An entry in line n.
+abbrev listedOnce : Entry → ℕ → Listed
+listedOnce e n = record { entry = e; line = n }
+
 -- The entries after a line are those before it and its own.
 counted : (d : Draft) (n : ℕ) (x : Option Directive) → after d x .entries ≡ d .entries + length (listed n x)
 counted d n none = omega arith
@@ -484,7 +488,7 @@ counted d n (some (job j)) = omega arith
 counted d n (some (block ws)) = omega arith
 counted d n (some update) = omega arith
 counted d n (some (move m)) = omega arith
-counted d n (some (entry e)) = omega arith
+counted d n (some (entry e k)) = omega (arith, length-replicate k (listedOnce e n))
 
 -- A reading of lines, behind a draft with some entries, that ends well.
 record Ends (entries : ℕ) (ls : List Line) (d : Draft) : Type 0 where
@@ -537,11 +541,19 @@ lines-sound :
     (form : Form) (d : Draft) (ls : List Line) → SoundSoFar d → SoundOutcome (d .entries) ls (readLines form d ls)
 lines-sound form d [] safe = end-sound d (laidOut d) (d .lines + 1) safe refl
 lines-sound form d (l ∷ ls) safe =
-    or-sound (d .entries) (l ∷ ls) (firstOf (hasFault form d (parsedIn d l)) byNumber) (d .lines + 1)
+    or-sound (d .entries) (l ∷ ls) (firstOf (hasFault form d (parsedIn d l)) byRank) (d .lines + 1)
     (readLines form (afterLine d l) ls) (line-lowest form d (parsedIn d l))
     (λ clear.
     line-sound d l ls (readLines form (afterLine d l) ls)
     (lines-sound form (afterLine d l) ls (line-kept form d l safe clear)))
+
+-- Lines that are read to a draft list as many entries as it has counted.
+pub counted-entries :
+    (form : Form) (ls : List Line) (d : Draft) (s : ℕ) → readLines form blank ls ≡ sound d
+    → length (entriesOf s 1 ls) ≡ d .entries
+counted-entries form ls d s e =
+    let ends : Ends 0 ls d = rw e at (lines-sound form blank ls blank-sound) in
+    omega (arith, ends .all-entries s 1)
 
 -- A draft that is sound so far and laid out has a sound plan.
 whole-sound : (d : Draft) → SoundSoFar d → laidOut d ≡ true → Sound (d .plan)

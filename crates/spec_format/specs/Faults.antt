@@ -1,7 +1,7 @@
 -- The faults of a line, one clause for each row of the table: what the lines before have said is a draft of the plan,
--- and a line has a fault or not, whatever other faults it has. Fault, its variants and Form are declared in
--- src/lib.rt. Assumes nothing.
-use Prim.Native.Nat.{ℕ, _*_}
+-- and a line has a fault or not, whatever other faults it has. The rank of a fault says when it is judged. Fault, its
+-- variants and Form are declared in src/lib.rt. Assumes nothing.
+use Prim.Native.Nat.{ℕ, _+_, _*_}
 use mathlib.Core.Bool.{Bool, true, false, not, _&&_, _||_}
 use mathlib.Core.List.{List, [], _∷_, _++_}
 use mathlib.Core.Option.{Option, none, some}
@@ -28,9 +28,25 @@ numberOf Fault.BadJob = 7
 numberOf Fault.SameJob = 8
 numberOf Fault.BadWord = 9
 numberOf Fault.TooManyBlocks = 10
+numberOf Fault.BadRun = 16
 
--- What some lines have said: how many they are, how many of them are blocks and entries, and the plan so far. Before
--- the plan line all sizes are 0.
+-- The order of judgement in a line: the fault of the lowest rank counts. It is that of the numbers, but for "16 ..,
+-- judged after 4 and before 5". The ranks leave room for faults that are judged between these.
+abbrev pub rank : Fault → ℕ
+rank Fault.TooLong = 10
+rank Fault.Unknown = 20
+rank Fault.Misplaced = 30
+rank Fault.Malformed = 40
+rank Fault.BadRun = 45
+rank Fault.TooMany = 50
+rank Fault.BadSize = 60
+rank Fault.BadJob = 70
+rank Fault.SameJob = 80
+rank Fault.BadWord = 90
+rank Fault.TooManyBlocks = 100
+
+-- What some lines have said: how many they are, how many blocks and single entries they hold, and the plan so far.
+-- Before the plan line all sizes are 0.
 pub record Draft : Type 0 where
   pub lines : ℕ
   pub blocks : ℕ
@@ -115,7 +131,7 @@ ofPlan f (some (job j)) = false
 ofPlan f (some (block ws)) = false
 ofPlan f (some update) = false
 ofPlan f (some (move m)) = false
-ofPlan f (some (entry e)) = false
+ofPlan f (some (entry e n)) = false
 
 -- The same of the job.
 abbrev pub ofJob : (Job → Bool) → Option Directive → Bool
@@ -125,7 +141,7 @@ ofJob f (some (job j)) = f j
 ofJob f (some (block ws)) = false
 ofJob f (some update) = false
 ofJob f (some (move m)) = false
-ofJob f (some (entry e)) = false
+ofJob f (some (entry e n)) = false
 
 -- The same of the move.
 abbrev pub ofMove : (Move → Bool) → Option Directive → Bool
@@ -135,18 +151,32 @@ ofMove f (some (job j)) = false
 ofMove f (some (block ws)) = false
 ofMove f (some update) = false
 ofMove f (some (move m)) = f m
-ofMove f (some (entry e)) = false
+ofMove f (some (entry e n)) = false
+
+-- The same of how many times an entry comes.
+abbrev pub ofRun : (ℕ → Bool) → Option Directive → Bool
+ofRun f none = false
+ofRun f (some (plan s)) = false
+ofRun f (some (job j)) = false
+ofRun f (some (block ws)) = false
+ofRun f (some update) = false
+ofRun f (some (move m)) = false
+ofRun f (some (entry e n)) = f n
 
 -- The fields cannot be read: a wrong count of them, or a bad number.
 abbrev pub unreadable : Option Directive → Bool
 unreadable none = true
 unreadable (some i) = false
 
--- The most entries of a schedule.
+-- The most steps of a run.
+abbrev pub longestRun : ℕ
+longestRun = 4000
+
+-- The most single entries of a schedule.
 abbrev pub mostEntries : ℕ
 mostEntries = 4000
 
--- The 33rd update, the 17th move, the 4,001st entry.
+-- The 33rd update, the 17th move, the 4,001st single entry: "The n steps count as n entries for the 4,000".
 abbrev pub oneTooMany : Draft → Option Directive → Bool
 oneTooMany d none = false
 oneTooMany d (some (plan s)) = false
@@ -154,9 +184,9 @@ oneTooMany d (some (job j)) = false
 oneTooMany d (some (block ws)) = false
 oneTooMany d (some update) = leb 32 (length (d .plan .updates))
 oneTooMany d (some (move m)) = leb 16 (length (lastOf (d .plan .updates)))
-oneTooMany d (some (entry e)) = leb mostEntries (d .entries)
+oneTooMany d (some (entry e n)) = ltb mostEntries (d .entries + n)
 
--- Whether a line has a fault, after lines that gave the draft d. The rows of the table, in its order.
+-- Whether a line has a fault, after lines that gave the draft d. The rows of the table, in the order of judgement.
 abbrev pub hasFault : Form → Draft → ParsedLine → Fault → Bool
 -- 1: text over 65,536 bytes. This is no line's fault but the whole text's.
 hasFault form d r Fault.TooLong = false
@@ -166,6 +196,8 @@ hasFault form d r Fault.Unknown = not (r .ended) || isUnknown (r .kind)
 hasFault form d r Fault.Misplaced = not (stands form d (r .kind))
 -- 4: wrong count of fields, or a bad number.
 hasFault form d r Fault.Malformed = unreadable (r .directive)
+-- 16: a run of steps whose n is not from 1 to 4,000.
+hasFault form d r Fault.BadRun = ofRun (λ n. not (within 1 longestRun n)) (r .directive)
 -- 5: 33rd update, 17th move, 4,001st entry.
 hasFault form d r Fault.TooMany = oneTooMany d (r .directive)
 -- 6: P, N, B, S or C outside its range.

@@ -5,4 +5,5 @@ pub mod ParsedLines
 pub mod Faults
 pub mod Reading
 pub mod FirstFault
+pub mod RunIsSteps
 pub mod Sound

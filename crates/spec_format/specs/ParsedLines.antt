@@ -12,30 +12,38 @@ use Rattle.spec_format.specs.declared.Move.{Move}
 use Rattle.spec_format.specs.declared.Entry.{Entry}
 use Rattle.spec_format.specs.Kinds.{kindOf}
 
--- What a line of a known kind says.
+-- What a line of a known kind says. An entry comes with the number of times that it stands there: a run of n steps is
+-- the entry `step card` n times over, every other entry is there once.
 pub data Directive : Type 0 where
   plan : Sizes → Directive
   job : Job → Directive
   block : List ℕ → Directive
   update : Directive
   move : Move → Directive
-  entry : Entry → Directive
+  entry : Entry → ℕ → Directive
 
--- The numbers that a kind has behind its first field: `plan P N B S C`, `job card priority`, `block` with s words,
--- `update`, `copy d a`, `set d k`, `add d a k`, `call job update`, `step card`.
-abbrev pub numberCount : ℕ → Kind → ℕ
-numberCount s Kind.Plan = 5
-numberCount s Kind.Job = 2
-numberCount s Kind.Block = s
-numberCount s Kind.Update = 0
-numberCount s Kind.Copy = 2
-numberCount s Kind.Set = 2
-numberCount s Kind.Add = 3
-numberCount s Kind.Call = 2
-numberCount s Kind.Step = 1
-numberCount s Kind.Unknown = 0
+-- How many numbers a line `step` has, by the fields behind the first: `step card`, or `step card n` where there is a
+-- second of them.
+abbrev pub stepNumbers : List (List ℕ) → ℕ
+stepNumbers [] = 1
+stepNumbers (f ∷ []) = 1
+stepNumbers (f ∷ g ∷ fs) = 2
 
--- What a line of this kind with these numbers says. An unknown kind says nothing.
+-- How many numbers a kind has behind its first field: `plan P N B S C`, `job card priority`, `block` with s words,
+-- `update`, `copy d a`, `set d k`, `add d a k`, `call job update`, `step card` or `step card n`.
+abbrev pub numberCount : ℕ → Kind → List (List ℕ) → ℕ
+numberCount s Kind.Plan fs = 5
+numberCount s Kind.Job fs = 2
+numberCount s Kind.Block fs = s
+numberCount s Kind.Update fs = 0
+numberCount s Kind.Copy fs = 2
+numberCount s Kind.Set fs = 2
+numberCount s Kind.Add fs = 3
+numberCount s Kind.Call fs = 2
+numberCount s Kind.Step fs = stepNumbers fs
+numberCount s Kind.Unknown fs = 0
+
+-- What a line of this kind with these numbers says. A step without n is there once. An unknown kind says nothing.
 abbrev pub directive : Kind → List ℕ → Option Directive
 directive Kind.Plan ns =
     some
@@ -48,9 +56,13 @@ directive Kind.Update ns = some update
 directive Kind.Copy ns = some (move (Move.Copy (getD ns 0 0) (getD ns 1 0)))
 directive Kind.Set ns = some (move (Move.Set (getD ns 0 0) (getD ns 1 0)))
 directive Kind.Add ns = some (move (Move.Add (getD ns 0 0) (getD ns 1 0) (getD ns 2 0)))
-directive Kind.Call ns = some (entry (record { kind = 0; first = getD ns 0 0; second = getD ns 1 0 }))
-directive Kind.Step ns = some (entry (record { kind = 1; first = getD ns 0 0; second = 0 }))
+directive Kind.Call ns = some (entry (record { kind = 0; first = getD ns 0 0; second = getD ns 1 0 }) 1)
+directive Kind.Step ns = some (entry (record { kind = 1; first = getD ns 0 0; second = 0 }) (getD ns 1 1))
 directive Kind.Unknown ns = none
+
+-- The numbers of a line of this kind, from the fields behind the first, where they could be read.
+abbrev pub numbersFor : ℕ → Kind → List (List ℕ) → Option (List ℕ)
+numbersFor s k fs = numbers (numberCount s k fs) fs
 
 -- What the numbers of a line say, where they could be read.
 abbrev pub directiveOf : Kind → Option (List ℕ) → Option Directive
@@ -67,7 +79,7 @@ pub record ParsedLine : Type 0 where
 abbrev pub parsedFrom : ℕ → Bool → List (List ℕ) → ParsedLine
 parsedFrom s e [] = record { ended = e; kind = Kind.Unknown; directive = none }
 parsedFrom s e (f ∷ fs) =
-    record { ended = e; kind = kindOf f; directive = directiveOf (kindOf f) (numbers (numberCount s (kindOf f)) fs) }
+    record { ended = e; kind = kindOf f; directive = directiveOf (kindOf f) (numbersFor s (kindOf f) fs) }
 
 -- A line taken apart, where blocks have s words.
 unfoldable pub parsedOf : ℕ → Line → ParsedLine

@@ -22,7 +22,8 @@ pub record Plan : Type 0 where
 abbrev pub jobIn : Plan → ℕ → Job
 jobIn plan k = getD (plan .jobs) k (record { card = 0; priority = 0 })
 
--- An entry of a schedule with the line that it stands in; its number is its place in the list, from 1.
+-- A single entry of a schedule with the line that it stands in; its number is its place in the list, from 1. The steps
+-- of a run all have the run's line.
 pub record Listed : Type 0 where
   pub entry : Entry
   pub line : ℕ

@@ -1,11 +1,11 @@
--- What a whole text gives: the plan and the entries, or the refusal with its number and line. "The first line with a
--- fault counts, and in it the lowest number." Assumes nothing.
+-- What a whole text gives: the plan and the single entries, or the refusal with its number and line. "The first line
+-- with a fault counts", and in it the fault that is judged first. Assumes nothing.
 use Prim.Native.Nat.{ℕ, _+_}
 use mathlib.Core.Bool.{Bool, cond}
 use mathlib.Core.List.{List, [], _∷_, _++_}
 use mathlib.Core.Option.{Option, none, some}
 use lib.Dec.{ltb}
-use lib.ListN.{length}
+use lib.ListN.{length, replicate}
 use Rattle.spec_text.specs.Lines.{Line, lines}
 use Rattle.spec_format.specs.declared.Fault.{Fault}
 use Rattle.spec_format.specs.declared.Form.{Form}
@@ -47,7 +47,7 @@ planAfter p update =
     record { sizes = p .sizes; jobs = p .jobs; words = p .words; updates = p .updates ++ ([] ∷ []) }
 planAfter p (move m) =
     record { sizes = p .sizes; jobs = p .jobs; words = p .words; updates = addToLast m (p .updates) }
-planAfter p (entry e) = p
+planAfter p (entry e n) = p
 
 -- How many blocks there are after a line, where there were n.
 abbrev pub blocksAfter : ℕ → Directive → ℕ
@@ -56,16 +56,16 @@ blocksAfter n (job j) = n
 blocksAfter n (block ws) = n + 1
 blocksAfter n update = n
 blocksAfter n (move m) = n
-blocksAfter n (entry e) = n
+blocksAfter n (entry e k) = n
 
--- How many entries there are after a line, where there were n.
+-- How many single entries there are after a line, where there were n.
 abbrev pub entriesAfter : ℕ → Directive → ℕ
 entriesAfter n (plan s) = n
 entriesAfter n (job j) = n
 entriesAfter n (block ws) = n
 entriesAfter n update = n
 entriesAfter n (move m) = n
-entriesAfter n (entry e) = n + 1
+entriesAfter n (entry e k) = n + k
 
 -- The draft after one more line; a line whose fields cannot be read adds nothing to the plan.
 abbrev pub after : Draft → Option Directive → Draft
@@ -86,12 +86,13 @@ parsedIn d l = parsedOf (d .plan .sizes .words) l
 abbrev pub afterLine : Draft → Line → Draft
 afterLine d l = after d (parsedIn d l .directive)
 
--- The faults that a line can have, by their numbers.
-abbrev pub byNumber : List Fault
-byNumber =
+-- The faults that a line can have, by their ranks.
+abbrev pub byRank : List Fault
+byRank =
     Fault.Unknown
     ∷ Fault.Misplaced
     ∷ Fault.Malformed
+    ∷ Fault.BadRun
     ∷ Fault.TooMany
     ∷ Fault.BadSize
     ∷ Fault.BadJob
@@ -120,9 +121,10 @@ orElse none line rest = rest
 abbrev pub readLines : Form → Draft → List Line → ReadOutcome
 readLines form d [] = cond (laidOut d) (sound d) (refused Fault.Misplaced (d .lines + 1))
 readLines form d (l ∷ ls) =
-    orElse (firstOf (hasFault form d (parsedIn d l)) byNumber) (d .lines + 1) (readLines form (afterLine d l) ls)
+    orElse (firstOf (hasFault form d (parsedIn d l)) byRank) (d .lines + 1) (readLines form (afterLine d l) ls)
 
--- The entry of a line, with the line.
+-- The single entries of a line, each with the line: "A line `step card n` .. shall do what n lines `step card` do", and
+-- "the refusal's line is the line of the run".
 abbrev pub listed : ℕ → Option Directive → List Listed
 listed n none = []
 listed n (some (plan s)) = []
@@ -130,14 +132,14 @@ listed n (some (job j)) = []
 listed n (some (block ws)) = []
 listed n (some update) = []
 listed n (some (move m)) = []
-listed n (some (entry e)) = record { entry = e; line = n } ∷ []
+listed n (some (entry e k)) = replicate k (record { entry = e; line = n })
 
--- The entries of lines that are numbered from n on, in order, where blocks have s words.
+-- The single entries of lines that are numbered from n on, in order, where blocks have s words.
 abbrev pub entriesOf : ℕ → ℕ → List Line → List Listed
 entriesOf s n [] = []
 entriesOf s n (l ∷ ls) = listed n (parsedOf s l .directive) ++ entriesOf s (n + 1) ls
 
--- What a text gives: a refusal with its line, or a plan with the entries and the count of all lines.
+-- What a text gives: a refusal with its line, or a plan with the single entries and the count of all lines.
 pub data Reading : Type 0 where
   refusal : Fault → ℕ → Reading
   accepted : Plan → List Listed → ℕ → Reading

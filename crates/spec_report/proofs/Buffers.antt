@@ -35,7 +35,7 @@ use Rattle.spec_report.specs.Outcomes.{
   handed,
   left,
 }
-use Rattle.spec_report.proofs.Texts.{times, oneJob, update, twoBlocks}
+use Rattle.spec_report.proofs.Texts.{times, run, callAndRun, oneJob, update, twoBlocks}
 
 -- A report that is handed back fits, by a test on its length.
 within : (b : Bool) (report buffer : List ℕ) → fits report buffer ≡ b → length (cond b report []) ≤ length buffer
@@ -111,7 +111,7 @@ rows =
       handed = "block\t5\nend\t0\t3\n";
       left = "block\t5\nend\t0\t3\n";
     }
-    -- 1 to 10: no report
+    -- 1 to 10 and 16: no report
     ∷ untouched (runText (replicate 65537 120)) 1 0
     ∷ untouched (runText (oneJob 1 5 (bytes "x\n"))) 2 4
     ∷ untouched (runText []) 3 1
@@ -122,6 +122,7 @@ rows =
     ∷ untouched (runText (bytes "plan\t1\t2\t1\t1\t1\njob\t0\t0\njob\t0\t0\n")) 8 3
     ∷ untouched (runText (oneJob 1 5 (update "set\t1\t0\n" []))) 9 5
     ∷ untouched (runText (twoBlocks (update "set\t0\t1\nset\t1\t1\n" []))) 10 7
+    ∷ untouched (runText (oneJob 1 5 (run 0))) 16 4
     -- 11 to 14: the report of the state before the entry
     ∷ record {
       outcome = runText (oneJob 1 5 (bytes "call\t1\t0\n"));
@@ -159,17 +160,37 @@ rows =
       handed = "block\t5\nend\t14\t4\n";
       left = "block\t5\nend\t14\t4\nx";
     }
-    -- 15 in the place of 0 and of 11 to 14; 1 to 10 stay, also with no buffer at all
+    -- a refusal inside a run: its line is the run's, and the entry is told by its own number
+    ∷ record {
+      outcome = runText (oneJob 1 5 (update "" (callAndRun 40)));
+      room = 34;
+      number = 14;
+      line = 6;
+      entry = 24;
+      handed = "commit\t18\t0\t0\nblock\t5\nend\t14\t6\n";
+      left = "commit\t18\t0\t0\nblock\t5\nend\t14\t6\nxxx";
+    }
+    -- 15 in the place of 0 and of 11 to 14; the others stay, also with no buffer at all
     ∷ untouched (runText (oneJob 1 5 [])) 15 0
     ∷ untouched (runText (oneJob 1 5 (bytes "call\t1\t0\n"))) 15 0
     ∷ untouched (runText (oneJob 1 5 (update "call\t0\t0\ncall\t0\t0\n" []))) 15 0
     ∷ untouched (runText (oneJob 1 5 (bytes "step\t1\n"))) 15 0
     ∷ untouched (runText (oneJob 1 5 (bytes "step\t0\n"))) 15 0
     ∷ record { outcome = runText []; room = 0; number = 3; line = 1; entry = 0; handed = ""; left = "" }
+    ∷ record {
+      outcome = runText (oneJob 1 5 (run 0));
+      room = 0;
+      number = 16;
+      line = 4;
+      entry = 0;
+      handed = "";
+      left = "";
+    }
     -- records: 5 and 3 by place, an entry line in the plan's text, a refused entry by place, acceptance by their count
     ∷ untouched (runSchedule (oneJob 1 5 []) (replicate 4001 (entry 2 0 0))) 5 4001
     ∷ untouched (runSchedule (oneJob 1 5 []) (entry 1 0 0 ∷ entry 2 0 0 ∷ [])) 3 2
     ∷ untouched (runSchedule (oneJob 1 5 (bytes "step\t0\n")) (entry 2 0 0 ∷ [])) 3 4
+    ∷ untouched (runSchedule (oneJob 1 5 (run 0)) (entry 2 0 0 ∷ [])) 3 4
     ∷ record {
       outcome = runSchedule (oneJob 1 5 (update "" [])) (entry 0 0 0 ∷ entry 1 0 7 ∷ entry 1 1 7 ∷ []);
       room = 27;

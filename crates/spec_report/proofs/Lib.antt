@@ -1,5 +1,6 @@
 -- The definitions computed on the runs of document 01, the laws of what is left in a lent buffer and of where a run
--- ends, and the nearest wrong machine held against the right one.
+-- ends, the report of a run of steps and of the steps in its place, and the nearest wrong machine held against the
+-- right one.
 mod Texts
 pub mod MarkedRuns
 pub mod Buffers
@@ -7,3 +8,4 @@ pub mod WholeAtCommit
 pub mod Backed
 pub mod Ends
 pub mod MarkedSchedules
+pub mod RunReports

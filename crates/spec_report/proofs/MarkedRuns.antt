@@ -1,5 +1,6 @@
--- The runs that document 01 lists, and a few that pin what these do not show, as rows of one table, and the theorem
--- that each text gives what its row says, by computation on the definitions. Assumes nothing.
+-- The runs that document 01 lists, those of them with joined steps, and a few that pin what these do not show, as rows
+-- of one table, and the theorem that each text gives what its row says, by computation on the definitions. Assumes
+-- nothing.
 use Prim.Native.Nat.{ℕ}
 use Prim.Native.String.{String}
 use mathlib.Core.Path.{_≡_, refl}
@@ -18,7 +19,8 @@ use Rattle.spec_machine.specs.Entries.{judge, acted}
 use Rattle.spec_machine.specs.History.{begun, entered, runOf}
 use Rattle.spec_report.specs.Report.{report}
 use Rattle.spec_report.specs.Outcomes.{runText, printed}
-use Rattle.spec_report.proofs.Texts.{steps, callAndSteps, oneJob, update, T, twoBlocks, twoJobs}
+use Rattle.spec_report.proofs.Texts.{steps, run, callAndSteps, callAndRun, oneJob, update}
+use Rattle.spec_report.proofs.Texts.{upToUpdate, T, T-run, twoBlocks, twoJobs}
 
 -- A text, and what it must print: its report, or the last line alone.
 pub record Row : Type 0 where
@@ -58,12 +60,12 @@ rows =
     }
     -- "T, call at once repeated: 12, line 7."
     ∷ record {
-      text = oneJob 1 5 (update "add\t0\t0\t2\n" (bytes "call\t0\t0\n" ++ callAndSteps 33));
+      text = upToUpdate (bytes "call\t0\t0\n" ++ callAndSteps 33);
       printed = "block\t5\nopen\t0\t1\nend\t12\t7\n";
     }
     -- "Step before call: 14, line 6."
     ∷ record {
-      text = oneJob 1 5 (update "add\t0\t0\t2\n" (steps 1 ++ callAndSteps 33));
+      text = upToUpdate (steps 1 ++ callAndSteps 33);
       printed = "block\t5\nend\t14\t6\n";
     }
     -- "B = 2, S = 1, C = 1, sets of words 0 and 1: 10 at the second; word 0 twice passes."
@@ -79,6 +81,28 @@ rows =
       text = twoJobs (update "" (callAndSteps 4 ++ (bytes "call\t1\t0\n" ++ steps 40)));
       printed = "commit\t21\t0\t0\ncommit\t38\t1\t0\nblock\t5\nend\t0\t51\n";
     }
+    -- the same with joined steps: T, with 27, with 26 and with 34, where "the refusal's line is the line of the run"
+    ∷ record { text = T-run 33; printed = "commit\t29\t0\t0\nblock\t7\nend\t0\t7\n" }
+    ∷ record { text = T-run 27; printed = "block\t7\nopen\t0\t0\nend\t0\t7\n" }
+    ∷ record { text = T-run 26; printed = "block\t5\nopen\t0\t0\nend\t0\t7\n" }
+    ∷ record { text = T-run 34; printed = "commit\t29\t0\t0\nblock\t7\nend\t14\t7\n" }
+    ∷ record {
+      text = twoJobs (update "" (callAndRun 4 ++ (bytes "call\t1\t0\n" ++ run 40)));
+      printed = "commit\t21\t0\t0\ncommit\t38\t1\t0\nblock\t5\nend\t0\t9\n";
+    }
+    -- a run of one, and one parted by a step
+    ∷ record {
+      text = upToUpdate (callAndRun 1 ++ (steps 1 ++ run 31));
+      printed = "commit\t29\t0\t0\nblock\t7\nend\t0\t9\n";
+    }
+    -- "16 when n is outside its range, judged after 4 and before 5": a run of none, of one too many, and of none behind
+    -- a full schedule
+    ∷ record { text = T-run 0; printed = "end\t16\t7\n" }
+    ∷ record { text = T-run 4001; printed = "end\t16\t7\n" }
+    ∷ record { text = upToUpdate (callAndRun 3999 ++ run 0); printed = "end\t16\t8\n" }
+    ∷ record { text = upToUpdate (bytes "step\t0\t00\n"); printed = "end\t4\t6\n" }
+    -- "The n steps count as n entries for the 4,000": a run that passes it, and nothing runs
+    ∷ record { text = T-run 4000; printed = "end\t5\t7\n" }
     -- and what no listed run shows: "add (word d becomes word a plus k ..)" where d is not a;
     ∷ record {
       text = twoBlocks (update "add\t1\t0\t2\n" (callAndSteps 37));

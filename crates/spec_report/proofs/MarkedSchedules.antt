@@ -20,11 +20,11 @@ use Rattle.spec_machine.specs.Entries.{judge, acted}
 use Rattle.spec_machine.specs.History.{begun, entered, runOf}
 use Rattle.spec_report.specs.Report.{report}
 use Rattle.spec_report.specs.Outcomes.{runSchedule, printed}
-use Rattle.spec_report.proofs.Texts.{oneJob, update, T}
+use Rattle.spec_report.proofs.Texts.{run, upToUpdate, T}
 
 -- The plan of T, without its entries.
 abbrev planOfT : List ℕ
-planOfT = oneJob 1 5 (update "add\t0\t0\t2\n" [])
+planOfT = upToUpdate []
 
 -- "A record has a kind (0 call, 1 step) and two numbers, a step's second unused."
 abbrev callRecord : Entry
@@ -66,6 +66,8 @@ rows =
     ∷ record { text = planOfT; records = otherRecord 4294967295 ∷ []; printed = "end\t3\t1\n" }
     -- "beside a plan's text, in which an entry line is 3"; "After the text's check"
     ∷ record { text = T 33; records = otherRecord 2 ∷ []; printed = "end\t3\t6\n" }
+    -- a run of steps too, whatever its fields
+    ∷ record { text = upToUpdate (run 0); records = []; printed = "end\t3\t6\n" }
     -- no records
     ∷ record { text = planOfT; records = []; printed = "block\t5\nend\t0\t0\n" }
     ∷ []

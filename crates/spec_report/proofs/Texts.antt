@@ -4,6 +4,7 @@ use Prim.Native.String.{String}
 use mathlib.Core.List.{List, [], _++_}
 use Rattle.spec_text.specs.Bytes.{bytes}
 use Rattle.spec_text.specs.Decimal.{decimal}
+use Rattle.spec_format.specs.RunIsSteps.{runLine, stepLines}
 
 -- A text n times.
 abbrev pub times : ℕ → List ℕ → List ℕ
@@ -12,11 +13,19 @@ times (suc n) s = s ++ times n s
 
 -- n times `step 0`.
 abbrev pub steps : ℕ → List ℕ
-steps n = times n (bytes "step\t0\n")
+steps n = stepLines 0 n
+
+-- `step 0 n`.
+abbrev pub run : ℕ → List ℕ
+run n = runLine 0 n
 
 -- `call 0 0`, then n times `step 0`.
 abbrev pub callAndSteps : ℕ → List ℕ
 callAndSteps n = bytes "call\t0\t0\n" ++ steps n
+
+-- `call 0 0`, then `step 0 n`.
+abbrev pub callAndRun : ℕ → List ℕ
+callAndRun n = bytes "call\t0\t0\n" ++ run n
 
 -- A plan with so many cards, one job, and one block of one word; then more lines.
 abbrev pub oneJob : ℕ → ℕ → List ℕ → List ℕ
@@ -29,9 +38,17 @@ oneJob cards word more =
 abbrev pub update : String → List ℕ → List ℕ
 update moves more = bytes "update\n" ++ (bytes moves ++ more)
 
+-- The lines of T up to its update; then more lines.
+abbrev pub upToUpdate : List ℕ → List ℕ
+upToUpdate more = oneJob 1 5 (update "add\t0\t0\t2\n" more)
+
 -- T with n steps; T itself has 33.
 abbrev pub T : ℕ → List ℕ
-T n = oneJob 1 5 (update "add\t0\t0\t2\n" (callAndSteps n))
+T n = upToUpdate (callAndSteps n)
+
+-- T with a run of n steps.
+abbrev pub T-run : ℕ → List ℕ
+T-run n = upToUpdate (callAndRun n)
 
 -- Two blocks of one word, one of which an update may write; then more lines.
 abbrev pub twoBlocks : List ℕ → List ℕ

@@ -2,3 +2,4 @@
 pub mod Report
 pub mod Outcomes
 pub mod Backed
+pub mod RunsAlike

@@ -2,10 +2,11 @@
 -- B lines `block` ..; `open job status` ..; `end number line`". Assumes nothing.
 use Prim.Native.Nat.{ℕ, zero, suc, _+_}
 use mathlib.Core.Bool.{cond}
-use mathlib.Core.List.{List, [], _∷_, _++_, map}
+use mathlib.Core.List.{List, [], _∷_, _++_}
 use lib.IntN.{ℤ, pos, negsuc}
 use Rattle.spec_text.specs.Bytes.{bytes}
 use Rattle.spec_text.specs.Decimal.{decimal}
+use Rattle.spec_text.specs.WrittenLines.{fieldsBehind, lineOf}
 use Rattle.spec_format.specs.declared.Entry.{Entry}
 use Rattle.spec_format.specs.Plan.{Plan}
 use Rattle.spec_format.specs.Faults.{numberOf}
@@ -15,6 +16,10 @@ use Rattle.spec_machine.specs.Places.{isActive}
 use Rattle.spec_machine.specs.Machine.{Machine, sharedIn, workOf, seen}
 use Rattle.spec_machine.specs.Entries.{refusalNumber}
 use Rattle.spec_machine.specs.History.{commitsIn, Run}
+
+-- The largest number of the table.
+abbrev pub largestNumber : ℕ
+largestNumber = 16
 
 -- The number that an end has in the table: "Acceptance is 0."
 abbrev pub endNumber : End → ℕ
@@ -36,15 +41,6 @@ endEntry (End.Accepted n) = 0
 endEntry (End.Faulty f n) = 0
 endEntry (End.Refused r i n) = i
 endEntry End.NoRoom = 0
-
--- Fields behind a first one, each behind a tab, and the line feed.
-abbrev pub fieldsBehind : List (List ℕ) → List ℕ
-fieldsBehind [] = 10 ∷ []
-fieldsBehind (f ∷ fs) = (9 ∷ f) ++ fieldsBehind fs
-
--- A line: its first field, and numbers.
-abbrev pub lineOf : List ℕ → List ℕ → List ℕ
-lineOf first ns = first ++ fieldsBehind (map decimal ns)
 
 -- A status, "−1 printed as `-1`".
 abbrev pub statusBytes : ℤ → List ℕ

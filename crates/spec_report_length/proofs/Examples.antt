@@ -7,7 +7,8 @@ use Rattle.spec_text.specs.Bytes.{bytes}
 use Rattle.spec_text.specs.Decimal.{decimal}
 use Rattle.spec_format.specs.declared.Fault.{Fault}
 use Rattle.spec_report.specs.declared.End.{End}
-use Rattle.spec_report.specs.Report.{fieldsBehind, lineOf, statusBytes, reportEnd}
+use Rattle.spec_text.specs.WrittenLines.{fieldsBehind, lineOf}
+use Rattle.spec_report.specs.Report.{statusBytes, reportEnd}
 use Rattle.spec_report_length.specs.Longest.{longestCommit, longestBlock, longestOpen, longestEnd, longestReport}
 
 -- The bound.

@@ -15,7 +15,8 @@ use Rattle.spec_machine.specs.declared.Refusal.{Refusal}
 use Rattle.spec_machine.specs.Entries.{refusalNumber}
 use Rattle.spec_machine.specs.Ranges.{StatusIn}
 use Rattle.spec_report.specs.declared.End.{End}
-use Rattle.spec_report.specs.Report.{endNumber, endLine, fieldsBehind, lineOf, statusBytes, joined, reportEnd}
+use Rattle.spec_text.specs.WrittenLines.{fieldsBehind, lineOf}
+use Rattle.spec_report.specs.Report.{largestNumber, endNumber, endLine, statusBytes, joined, reportEnd}
 use Rattle.spec_report_length.specs.Longest.{longestCommit, longestBlock, longestOpen, longestEnd}
 
 -- Numbers behind tabs, and the line feed: at most eleven bytes for each, and one.
@@ -70,11 +71,12 @@ joined-short (suc n) k f h =
     ))
 
 -- The number of a fault.
-fault-number : (f : Fault) → numberOf f ≤ 15
+fault-number : (f : Fault) → numberOf f ≤ largestNumber
 fault-number Fault.TooLong = omega arith
 fault-number Fault.Unknown = omega arith
 fault-number Fault.Misplaced = omega arith
 fault-number Fault.Malformed = omega arith
+fault-number Fault.BadRun = omega arith
 fault-number Fault.TooMany = omega arith
 fault-number Fault.BadSize = omega arith
 fault-number Fault.BadJob = omega arith
@@ -83,14 +85,14 @@ fault-number Fault.BadWord = omega arith
 fault-number Fault.TooManyBlocks = omega arith
 
 -- The number of a refusal of an entry.
-refusal-number : (r : Refusal) → refusalNumber r ≤ 15
+refusal-number : (r : Refusal) → refusalNumber r ≤ largestNumber
 refusal-number Refusal.NoSuch = omega arith
 refusal-number Refusal.Active = omega arith
 refusal-number Refusal.NoCard = omega arith
 refusal-number Refusal.NoneActive = omega arith
 
 -- The number of an end is one of the table.
-pub end-number : (e : End) → endNumber e ≤ 15
+pub end-number : (e : End) → endNumber e ≤ largestNumber
 end-number (End.Accepted n) = omega arith
 end-number (End.Faulty f n) = fault-number f
 end-number (End.Refused r i n) = refusal-number r

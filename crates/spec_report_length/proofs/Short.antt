@@ -39,7 +39,8 @@ use Rattle.spec_machine.proofs.EveryRun.{always}
 use Rattle.spec_ranges.proofs.Every.{every-other}
 use Rattle.spec_ranges.proofs.Ranges.{status-wider, in-range}
 use Rattle.spec_report.specs.declared.End.{End}
-use Rattle.spec_report.specs.Report.{endLine, lineOf, commitLines, blockLines, openLine, openLines, reportEnd, report}
+use Rattle.spec_text.specs.WrittenLines.{lineOf}
+use Rattle.spec_report.specs.Report.{endLine, commitLines, blockLines, openLine, openLines, reportEnd, report}
 use Rattle.spec_report.specs.Outcomes.{RunOutcome, refused, runOutcome, printed}
 use Rattle.spec_report.specs.Outcomes.{
   lineIn,

@@ -2,3 +2,4 @@
 pub mod Cases
 pub mod Decimal
 pub mod Digits
+pub mod WrittenLines

@@ -38,13 +38,16 @@ pub fn read_ending(line: &[u8]) -> Ending {
     })
 }
 
-// What a case says of the check of its text: an output that ends in n from 1 to 10 says that it is refused by n, and
-// every other that it is accepted.
+// What a case says of the check of its text: an output that ends in n from 1 to 10, or in 16, says that it is refused
+// by n, and every other that it is accepted.
 fn wanted(text: &[u8], end: Answer) -> Answer {
     let accepted = Answer {
         number: 0,
         line: vectors_cases::count(text, b'\n'),
     };
+    if end.number == 16 {
+        return end;
+    }
     if end.number < 1 {
         return accepted;
     }

@@ -2,10 +2,10 @@
 ghost use mathlib.Core.Path.{_≡_};
 ghost use lib.ListN.{length};
 ghost use Rattle.read_tables.specs.PlanTable.{emptyPlan};
-ghost use Rattle.read_tables.specs.EntryTable.{entryPlaces};
+ghost use Rattle.read_tables.specs.NoteTable.{notePlaces};
 ghost use Rattle.run_opening.specs.Opened.{emptyCells, emptyStore};
 ghost use Rattle.whole_records_start.specs.BeforeAndAfter.{toRun, BegunIs};
-use read_tables::ENTRY_PLACES;
+use read_tables::NOTE_PLACES;
 use read_tables::PLAN_PLACES;
 use spec_format::Form;
 use spec_format::Verdict;
@@ -36,17 +36,17 @@ fn begin_lent(
     text: &[u8],
     count: usize,
     plan: &mut [u32; PLAN_PLACES],
-    entries: &mut [u32; ENTRY_PLACES],
+    notes: &mut [u32; NOTE_PLACES],
     cells: &mut [u32; CELL_PLACES],
     stat: &mut [i32; 17],
     store: &mut [u32],
 ) -> Begun
-    requires { ⌜ (now plan ≡ emptyPlan) × ((length (now entries) ≡ entryPlaces) × ((now cells ≡ emptyCells)
+    requires { ⌜ (now plan ≡ emptyPlan) × ((length (now notes) ≡ notePlaces) × ((now cells ≡ emptyCells)
         × ((length (now stat) ≡ 17) × (now store ≡ emptyStore)))) ⌝ }
     ensures { λ r. ⌜ BegunIs (now (text .entry)) count r (now (plan .exit)) (now (cells .exit)) (now (stat .exit))
         (now (store .exit)) ⌝ }
 {
-    let parsed = read_text::read(text, Form::PlanAlone, plan, entries);
+    let parsed = read_text::read(text, Form::PlanAlone, plan, notes);
     let verdict = parsed.verdict;
     match verdict {
         Verdict::Refused(_, _) => Begun { verdict, n: 0 },
@@ -58,7 +58,7 @@ fn begin_lent(
     }
 }
 
-// What comes before the records run. The table of entries, of which a plan's text has none, is made here.
+// What comes before the records run. The table of notes, of which a plan's text has none, is made here.
 pub fn begin(
     text: &[u8],
     count: usize,
@@ -72,6 +72,6 @@ pub fn begin(
     ensures { λ r. ⌜ BegunIs (now (text .entry)) count r (now (plan .exit)) (now (cells .exit)) (now (stat .exit))
         (now (store .exit)) ⌝ }
 {
-    let mut entries = [0u32; ENTRY_PLACES];
-    begin_lent(text, count, plan, &mut entries, cells, stat, store)
+    let mut notes = [0u32; NOTE_PLACES];
+    begin_lent(text, count, plan, &mut notes, cells, stat, store)
 }

@@ -5,9 +5,10 @@ use mathlib.Core.List.{List}
 use Rattle.spec_format.specs.declared.Form.{Form}
 use Rattle.spec_format.specs.declared.Verdict.{Verdict}
 use Rattle.spec_format.specs.Reading.{reading}
-use Rattle.read_text.specs.Readings.{readingFrom}
+use Rattle.read_text.specs.declared.Parsed.{Parsed}
+use Rattle.read_text.specs.Readings.{ReadTo}
 
--- An accepted text was read into these tables.
-abbrev pub Reads : List ℕ → List ℕ → List ℕ → ℕ → ℕ → Type 0
-Reads text plan entries count lines =
-    readingFrom (Verdict.Accepted lines) plan count entries ≡ reading Form.Schedule text
+-- An accepted text was read to this into these tables.
+pub record Reads (text : List ℕ) (plan notes : List ℕ) (parsed : Parsed) (lines : ℕ) : Type 0 where
+  pub verdict-is : parsed .verdict ≡ Verdict.Accepted lines
+  pub read : ReadTo (reading Form.Schedule text) parsed plan notes

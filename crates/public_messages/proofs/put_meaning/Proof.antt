@@ -4,9 +4,6 @@ use Rattle.public_messages.proofs.Sentences.{has-room, said}
 use Rattle.public_messages.proofs.put_meaning.Statement.{statement}
 use Rattle.public_messages.proofs.put_meaning.Tie as tie
 
-slice-aggregate-t21 : tie.Need-slice-aggregate-t21
-slice-aggregate-t21 c = search needs
-
 slice-aggregate-t23 : tie.Need-slice-aggregate-t23
 slice-aggregate-t23 c = search needs
 
@@ -49,6 +46,15 @@ slice-aggregate-t47 c = search needs
 slice-aggregate-t49 : tie.Need-slice-aggregate-t49
 slice-aggregate-t49 c = search needs
 
+slice-aggregate-t51 : tie.Need-slice-aggregate-t51
+slice-aggregate-t51 c = search needs
+
+slice-aggregate-t53 : tie.Need-slice-aggregate-t53
+slice-aggregate-t53 c = search needs
+
+slice-aggregate-t55 : tie.Need-slice-aggregate-t55
+slice-aggregate-t55 c = search needs
+
 sentence-at-requires : tie.Need-sentence-at-requires
 sentence-at-requires c κs = search needs
 
@@ -56,7 +62,7 @@ sentence-at-requires c κs = search needs
 abbrev start : tie.After-sentence-at → tie.Start
 start c =
     c .before .before .before .before .before .before .before .before .before
-    .before .before .before .before .before .before .before .before
+    .before .before .before .before .before .before .before .before .before .before
 
 put-bytes-requires : tie.Need-put-bytes-requires
 put-bytes-requires c κs =
@@ -77,7 +83,6 @@ pub put-meaning-spec : {M : Type 1} → statement M
 put-meaning-spec =
     tie.close
     (tie.spec
-    slice-aggregate-t21
     slice-aggregate-t23
     slice-aggregate-t25
     slice-aggregate-t27
@@ -92,6 +97,9 @@ put-meaning-spec =
     slice-aggregate-t45
     slice-aggregate-t47
     slice-aggregate-t49
+    slice-aggregate-t51
+    slice-aggregate-t53
+    slice-aggregate-t55
     sentence-at-requires
     put-bytes-requires
     same-length

@@ -1,9 +1,11 @@
 -- `read_kind` hands each kind to its own function. Assumes nothing.
+use denote.Ref.{now}
 use Rattle.spec_format.specs.declared.Kind.{Kind}
+use Rattle.read_tables.specs.PlanTable.{sizesIn}
 use Rattle.read_line_promises.specs.declared.MoveKind.{MoveKind}
 use Rattle.read_line_promises.specs.declared.EntryKind.{EntryKind}
 use Rattle.read_line_promises.specs.Promises.{moveDirective, entryDirective}
-use Rattle.read_line.proofs.Arms.{at-kind, at-three, says-move, says-entry, at-unknown, standing-at}
+use Rattle.read_line.proofs.Arms.{at-kind, at-three, says-move, says-call, at-unknown, standing-at}
 use borrow.Author.Needs.{needs}
 use Rattle.read_line.proofs.read_kind.Statement.{statement}
 use Rattle.read_line.proofs.read_kind.Tie as tie
@@ -98,24 +100,21 @@ three-at-requires-4 c κs = search needs
 entry-line-requires : tie.Need-entry-line-requires
 entry-line-requires c κs =
     let s = c .before .before .before .before .before in
-    (s .pre .0 .1 .1, s .pre .1 .1)
+    (s .pre .0 .1 .1, (s .pre .1 .0 .ranged .notes-read, s .pre .1 .1))
 
 enum-told-9 : tie.Need-enum-told-9
 enum-told-9 c = search needs
 
-three-at-requires-5 : tie.Need-three-at-requires-5
-three-at-requires-5 c κs = search needs
-
-entry-line-requires-2 : tie.Need-entry-line-requires-2
-entry-line-requires-2 c κs =
-    let s = c .before .before .before .before .before in
-    (s .pre .0 .1 .1, s .pre .1 .1)
+step-line-requires : tie.Need-step-line-requires
+step-line-requires c κs =
+    let s = c .before .before .before .before in
+    (s .pre .0 .0, (s .pre .0 .1 .1, (s .pre .1 .0 .ranged .notes-read, s .pre .1 .1)))
 
 enum-told-10 : tie.Need-enum-told-10
 enum-told-10 c = search needs
 
-add-t28 : tie.Need-add-t28
-add-t28 c = search needs
+add-t26 : tie.Need-add-t26
+add-t26 c = search needs
 
 returns : tie.Need-returns
 returns c =
@@ -164,19 +163,16 @@ returns-8 : tie.Need-returns-8
 returns-8 c =
     let o = c .before .before in
     at-three _ Kind.Call _ _ _ _ _ _ (o .before .enum-told8 .given .1)
-    (entryDirective EntryKind.Call) (says-entry EntryKind.Call)
+    (entryDirective EntryKind.Call) says-call
     (o .three-at4 .result)
     (o .three-at4 .ensures)
     (c .entry-line .ensures Kind.Call _ (c .before .before .before .before .before .before .pre .1 .0))
 
 returns-9 : tie.Need-returns-9
 returns-9 c =
-    let o = c .before .before in
-    at-three _ Kind.Step _ _ _ _ _ _ (o .before .enum-told9 .given .1)
-    (entryDirective EntryKind.Step) (says-entry EntryKind.Step)
-    (o .three-at5 .result)
-    (o .three-at5 .ensures)
-    (c .entry-line2 .ensures Kind.Step _ (c .before .before .before .before .before .before .pre .1 .0))
+    let s = c .before .before .before .before .before in
+    at-kind _ Kind.Step _ _ _ _ _ _ (c .before .before .enum-told9 .given .1)
+    (c .step-line .ensures (sizesIn (now (s .args .plan)) .words) _ (s .pre .1 .0))
 
 returns-10 : tie.Need-returns-10
 returns-10 c =
@@ -207,10 +203,9 @@ read-kind-spec =
     three-at-requires-4
     entry-line-requires
     enum-told-9
-    three-at-requires-5
-    entry-line-requires-2
+    step-line-requires
     enum-told-10
-    add-t28
+    add-t26
     returns
     returns-2
     returns-3

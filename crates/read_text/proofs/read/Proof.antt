@@ -15,12 +15,12 @@ use Rattle.read_text.proofs.read.Statement.{statement}
 use Rattle.read_text.proofs.read.Tie as tie
 
 abbrev Inv-loop : tie.InvT-loop
-Inv-loop text form plan₀ entries₀ c₀ plan entries c =
-    Placed text c entries
+Inv-loop text form plan₀ notes₀ c₀ plan notes c =
+    Placed text c notes
     × (Consistent (c .progress) plan × (readLines form blank (lines text) ≡ rest form text c plan))
 
 abbrev μ-loop : tie.MeasureT-loop
-μ-loop text form plan₀ entries₀ c₀ plan entries c = length text - c .at
+μ-loop text form plan₀ notes₀ c₀ plan notes c = length text - c .at
 
 -- The start, from the loop.
 abbrev begin : tie.At-loop Inv-loop μ-loop → tie.Start Inv-loop μ-loop
@@ -28,7 +28,7 @@ begin c = c .before .before .before .before
 
 -- The tables at the loop.
 abbrev here : tie.At-loop Inv-loop μ-loop → ReadTables
-here c = readTables (c .loop .plan) (c .loop .entries)
+here c = readTables (c .loop .plan) (c .loop .notes)
 
 -- The text is within its measure.
 measured : (c : tie.At-loop Inv-loop μ-loop) → length (now (begin c .args .text)) ≤ 65536
@@ -58,7 +58,7 @@ start-requires : tie.Need-start-requires Inv-loop μ-loop
 start-requires c κs = search needs
 
 returns : tie.Need-returns Inv-loop μ-loop
-returns c = too-long _ (now (c .before .before .before .args .text)) (c .if1 .taken)
+returns c = too-long _ (now (c .before .before .before .args .text)) _ _ (c .if1 .taken)
 
 loop-holds : tie.Need-loop-holds Inv-loop μ-loop
 loop-holds c =
@@ -83,6 +83,8 @@ returns-2 c =
     _
     _
     (promised r _ (c .before .step .given .1))
+    _
+    _
 
 enum-known-step-2 : tie.Need-enum-known-step-2 Inv-loop μ-loop
 enum-known-step-2 c = search needs
@@ -123,6 +125,8 @@ returns-4 c =
     (l .loop .inv .1 .1)
     (c .before .before .before .before .before .if2 .left)
     (sym (c .before .before .laid-out .ensures) ∙ c .before .if3 .left)
+    _
+    _
 
 pub read-spec : {M : Type 1} → statement M
 read-spec =

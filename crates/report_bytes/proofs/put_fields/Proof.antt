@@ -7,7 +7,8 @@ use denote.Ref.{now}
 use lib.ListN.{length, getD}
 use lib.Seq.{take-all}
 use Rattle.spec_text.specs.Decimal.{decimal}
-use Rattle.spec_report.specs.Report.{joined, fieldsBehind}
+use Rattle.spec_text.specs.WrittenLines.{fieldsBehind}
+use Rattle.spec_report.specs.Report.{joined}
 use Rattle.report_bytes.specs.Writes.{Writes}
 use Rattle.report_bytes.proofs.Writes.{nothing, then, once-more, widen, renamed, keeps}
 use Rattle.report_bytes.proofs.LoopParts.{joined-of}

@@ -5,7 +5,7 @@ use native.Mathlib.Omega.{arith}
 use borrow.Author.Needs.{needs}
 use denote.Ref.{now}
 use Rattle.spec_text.specs.Bytes.{bytes}
-use Rattle.spec_report.specs.Report.{lineOf}
+use Rattle.spec_text.specs.WrittenLines.{lineOf}
 use Rattle.report_bytes.proofs.Writes.{widen, renamed}
 use Rattle.step_cells.proofs.StoreRoom.{block-inside}
 use Rattle.report_lines.proofs.BlockWords.{block-part}

@@ -8,7 +8,8 @@ use lib.ListN.{getD}
 use Rattle.spec_text.specs.Bytes.{bytes}
 use Rattle.spec_format.specs.declared.Sizes.{Sizes}
 use Rattle.spec_machine.specs.Machine.{blockIn}
-use Rattle.spec_report.specs.Report.{joined, lineOf}
+use Rattle.spec_text.specs.WrittenLines.{lineOf}
+use Rattle.spec_report.specs.Report.{joined}
 use Rattle.step_cells.specs.CellTable.{places, bankAt}
 use Rattle.report_bytes.specs.Writes.{Writes}
 use Rattle.report_lines.specs.ReportLines.{blocksBytes}

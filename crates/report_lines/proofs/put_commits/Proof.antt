@@ -6,7 +6,8 @@ use native.Mathlib.Omega.{arith}
 use denote.Ref.{now}
 use lib.ListN.{getD, take}
 use Rattle.spec_text.specs.Bytes.{bytes}
-use Rattle.spec_report.specs.Report.{joined, lineOf}
+use Rattle.spec_text.specs.WrittenLines.{lineOf}
+use Rattle.spec_report.specs.Report.{joined}
 use Rattle.report_bytes.specs.Writes.{Writes}
 use Rattle.report_lines.specs.ReportLines.{rowLines}
 use Rattle.report_bytes.proofs.Writes.{nothing, once-more, renamed, keeps}

@@ -9,7 +9,7 @@ use Rattle.spec_format.specs.Reading.{reading, verdictOf}
 use Rattle.spec_format.specs.Sound.{Sound}
 use Rattle.spec_format.proofs.Sound.{accepted-sound}
 use Rattle.read_tables.specs.PlanTable.{planIn}
-use Rattle.read_tables.specs.EntryTable.{listedIn}
+use Rattle.read_tables.specs.NoteTable.{listedIn}
 use Rattle.read_text.specs.Readings.{readingFrom}
 use Rattle.read_text.proofs.Verdicts.{verdict-kept}
 use borrow.Author.Needs.{needs}
@@ -24,27 +24,27 @@ start c = c .before .before .before .before .before
 abbrev tabulate-of : tie.After-read → List ℕ
 tabulate-of c = c .read .last .1 .1 .0
 
-abbrev entries-of : tie.After-read → List ℕ
-entries-of c = c .read .last .1 .1 .1 .0
+abbrev notes-of : tie.After-read → List ℕ
+notes-of c = c .read .last .1 .1 .1 .0
 
 -- The verdict is that of the reading.
 verdict : (c : tie.After-read)
     → verdictOf (reading Form.PlanAlone (now (start c .args .text))) ≡ c .read .result .verdict
 verdict c =
     let r = c .read .result in
-    sym (verdict-kept (r .verdict) (tabulate-of c) (r .entries) (entries-of c) ∙ ap verdictOf (c .read .ensures))
+    sym (verdict-kept (r .verdict) (tabulate-of c) (r .notes) (notes-of c) ∙ ap verdictOf (c .read .ensures .gives))
 
 -- The plan that was read, where the text is accepted.
 accepts : (c : tie.After-read) (lines : ℕ) → c .read .result .verdict ≡ Verdict.Accepted lines
-    → readingFrom (Verdict.Accepted lines) (tabulate-of c) (c .read .result .entries) (entries-of c)
+    → readingFrom (Verdict.Accepted lines) (tabulate-of c) (c .read .result .notes) (notes-of c)
     ≡ reading Form.PlanAlone (now (start c .args .text))
 accepts c lines e =
     subst
     (λ v.
-    readingFrom v (tabulate-of c) (c .read .result .entries) (entries-of c)
+    readingFrom v (tabulate-of c) (c .read .result .notes) (notes-of c)
     ≡ reading Form.PlanAlone (now (start c .args .text)))
     e
-    (c .read .ensures)
+    (c .read .ensures .gives)
 
 -- It is sound.
 sound : (c : tie.After-read) (lines : ℕ) → c .read .result .verdict ≡ Verdict.Accepted lines
@@ -89,7 +89,7 @@ returns-2 c =
       by-verdict =
           rw e (
             record {
-              listed = listedIn (r .read .result .entries) (entries-of r);
+              listed = listedIn (r .read .result .notes) (notes-of r);
               read = sym (accepts r _ e);
             },
             (c .to-run .ensures, o .«open» .ensures),

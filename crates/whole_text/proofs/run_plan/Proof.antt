@@ -5,7 +5,7 @@ use mathlib.Core.List.{List, [], _∷_}
 use denote.Ref.{now}
 use lib.IntN.{ℤ, pos}
 use lib.ListN.{take, replicate, length-replicate}
-use Rattle.read_tables.specs.EntryTable.{listedIn}
+use Rattle.read_tables.specs.NoteTable.{listedIn}
 use Rattle.spec_report.specs.Outcomes.{endOf, lineIn}
 use Rattle.step_cells.specs.Tables.{Tables, lent}
 use Rattle.step_cells.specs.Book.{bookOf}
@@ -14,14 +14,24 @@ use Rattle.run_opening.specs.Opened.{emptyCells, emptyStore, emptyRows}
 use Rattle.run_loop.specs.RunReached.{Starts}
 use Rattle.report_ending.proofs.WrittenOut.{same-outcome}
 use Rattle.whole_text.specs.Reads.{Reads}
-use Rattle.whole_text.proofs.AcceptedText.{sound-plan, few-entries, the-start, to-report, low-line, the-run}
+use Rattle.whole_text.proofs.AcceptedText.{
+  sound-plan,
+  few-notes,
+  few-listed,
+  counted,
+  few-entries,
+  the-start,
+  to-report,
+  low-line,
+  the-run,
+}
 use borrow.Author.Needs.{needs}
 use Rattle.whole_text.proofs.run_plan.Statement.{statement}
 use Rattle.whole_text.proofs.run_plan.Tie as tie
 
 -- The text was read.
 reads : (s : tie.Start)
-    → Reads (s .pre .0) (now (s .args .plan)) (now (s .args .entries)) (s .args .count) (s .args .lines)
+    → Reads (s .pre .0) (now (s .args .plan)) (now (s .args .notes)) (s .args .parsed) (s .args .lines)
 reads s = s .pre .1
 
 -- The start, from where the tables are opened,
@@ -39,13 +49,13 @@ listed c = c .before .before .before .before .before .before .before .before
 -- They can start.
 starts : (c : tie.After-records-of) (text : List ℕ) →
     let s = start (opened c) in
-    Reads text (now (s .args .plan)) (now (s .args .entries)) (s .args .count) (s .args .lines)
-    → Starts (now (s .args .plan)) (take (s .args .count) (c .records-of .result))
+    Reads text (now (s .args .plan)) (now (s .args .notes)) (s .args .parsed) (s .args .lines)
+    → Starts (now (s .args .plan)) (take (s .args .parsed .entries) (c .records-of .result))
     (lent (opened c .«open» .last .1 .0) (opened c .«open» .last .1 .1 .0) (opened c .«open» .last .1 .1 .1 .0)
     emptyRows emptyRows emptyRows (replicate 4000 (0 ∷ 0 ∷ 0 ∷ [])))
 starts c text r =
     let s = start (opened c) in
-    the-start text (now (s .args .plan)) (now (s .args .entries)) (s .args .count) (s .args .lines) r _ _ _ _ _
+    the-start text (now (s .args .plan)) (now (s .args .notes)) (s .args .parsed) (s .args .lines) r _ _ _ _ _
     (opened c .«open» .ensures) (length-replicate {A = List ℕ} 4000 (0 ∷ 0 ∷ 0 ∷ [])) (c .records-of .ensures)
 
 -- The tables when they have run.
@@ -64,11 +74,11 @@ end-so : (c : tie.After-end-of) →
     let s = start (opened (listed (ran-at c))) in
     c .end-of .result
     ≡ endOf (haltOf (bookOf (left (ran-at c)) .halt)) (bookOf (left (ran-at c)) .entries + 1)
-    (lineIn (listedIn (s .args .count) (now (s .args .entries))) (bookOf (left (ran-at c)) .entries))
+    (lineIn (listedIn (s .args .parsed .notes) (now (s .args .notes))) (bookOf (left (ran-at c)) .entries))
     (s .args .lines)
 end-so c =
     let s = start (opened (listed (ran-at c))) in
-    let ls = listedIn (s .args .count) (now (s .args .entries)) in
+    let ls = listedIn (s .args .parsed .notes) (now (s .args .notes)) in
     let l = c .before .before .before in
     let accepted = l .before .entries .result in
     c .end-of .ensures
@@ -84,14 +94,16 @@ open-requires : tie.Need-open-requires
 unfolding emptyCells emptyStore
 open-requires c κs =
     let s = c .before .before .before .before in (
-      sound-plan (s .pre .0) (now (s .args .plan)) (now (s .args .entries)) (s .args .count) (s .args .lines) (reads s),
+      sound-plan (s .pre .0) (now (s .args .plan)) (now (s .args .notes)) (s .args .parsed) (s .args .lines) (reads s),
       (refl, (length-replicate {A = ℤ} 17 (pos 0), refl)),
     )
 
 records-of-requires : tie.Need-records-of-requires
 records-of-requires c κs =
-    let s = start (c .before) in
-    few-entries (s .pre .0) (now (s .args .plan)) (now (s .args .entries)) (s .args .count) (s .args .lines) (reads s)
+    let s = start (c .before) in (
+      few-notes (s .pre .0) (now (s .args .plan)) (now (s .args .notes)) (s .args .parsed) (s .args .lines) (reads s),
+      few-listed (s .pre .0) (now (s .args .plan)) (now (s .args .notes)) (s .args .parsed) (s .args .lines) (reads s),
+    )
 
 slice-aggregate-run-list : tie.Need-slice-aggregate-run-list
 slice-aggregate-run-list c = search needs
@@ -100,7 +112,7 @@ run-list-requires : tie.Need-run-list-requires
 run-list-requires c κs =
     let r = c .before .before .before .before .before .before .before in
     let s = start (opened r) in (
-      few-entries (s .pre .0) (now (s .args .plan)) (now (s .args .entries)) (s .args .count) (s .args .lines)
+      few-entries (s .pre .0) (now (s .args .plan)) (now (s .args .notes)) (s .args .parsed) (s .args .lines)
           (reads s),
       starts r (s .pre .0) (reads s),
     )
@@ -113,8 +125,10 @@ cast-accepted c = search needs
 
 line-in-requires : tie.Need-line-in-requires
 line-in-requires c κs =
-    let s = start (opened (listed (c .before .before .before))) in
-    few-entries (s .pre .0) (now (s .args .plan)) (now (s .args .entries)) (s .args .count) (s .args .lines) (reads s)
+    let s = start (opened (listed (c .before .before .before))) in (
+      few-notes (s .pre .0) (now (s .args .plan)) (now (s .args .notes)) (s .args .parsed) (s .args .lines) (reads s),
+      counted (s .pre .0) (now (s .args .plan)) (now (s .args .notes)) (s .args .parsed) (s .args .lines) (reads s),
+    )
 
 halt-requires : tie.Need-halt-requires
 halt-requires c κs = search needs
@@ -135,11 +149,11 @@ finish-requires c κs =
     let r = listed q in
     let s = start (opened r) in
     let ran = q .run-list .ensures (starts r (s .pre .0) (reads s)) in (
-      to-report (s .pre .0) (now (s .args .plan)) (now (s .args .entries)) (s .args .count) (s .args .lines) (reads s)
+      to-report (s .pre .0) (now (s .args .plan)) (now (s .args .notes)) (s .args .parsed) (s .args .lines) (reads s)
           (left q) (r .records-of .result) (r .records-of .ensures) ran
           (e .end-of .result)
           (end-so e),
-      low-line (s .pre .0) (now (s .args .plan)) (now (s .args .entries)) (s .args .count) (s .args .lines) (reads s)
+      low-line (s .pre .0) (now (s .args .plan)) (now (s .args .notes)) (s .args .parsed) (s .args .lines) (reads s)
           (left q) (r .records-of .result) (r .records-of .ensures) ran
           (e .end-of .result)
           (end-so e),
@@ -158,7 +172,7 @@ returns c =
     let s = start (opened r) in
     let ran = q .run-list .ensures (starts r text reading) in
     same-outcome
-    (the-run text (now (s .args .plan)) (now (s .args .entries)) (s .args .count) (s .args .lines) reading
+    (the-run text (now (s .args .plan)) (now (s .args .notes)) (s .args .parsed) (s .args .lines) reading
     (left q) (r .records-of .result) (r .records-of .ensures) ran (e .end-of .result)
     (end-so e))
     (f .finish .ensures)

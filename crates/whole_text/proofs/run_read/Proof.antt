@@ -17,11 +17,11 @@ start c = c .before .before .before .before .before
 
 -- What the text gives, by the verdict that it met.
 given : (c : tie.After-read) (v : Verdict) → c .read .result .verdict ≡ v
-    → readingFrom v (c .read .last .1 .1 .0) (c .read .result .entries) (c .read .last .1 .1 .1 .0)
+    → readingFrom v (c .read .last .1 .1 .0) (c .read .result .notes) (c .read .last .1 .1 .1 .0)
     ≡ reading Form.Schedule (now (start c .args .text))
 given c v e =
-    sym (ap (λ w. readingFrom w (c .read .last .1 .1 .0) (c .read .result .entries) (c .read .last .1 .1 .1 .0)) e)
-    ∙ c .read .ensures
+    sym (ap (λ w. readingFrom w (c .read .last .1 .1 .0) (c .read .result .notes) (c .read .last .1 .1 .1 .0)) e)
+    ∙ c .read .ensures .gives
 
 read-requires : tie.Need-read-requires
 read-requires c κs = search needs
@@ -36,7 +36,7 @@ run-plan-requires : tie.Need-run-plan-requires
 run-plan-requires c κs =
     let v = c .before .before .before .before in
     let r = v .before .before in
-    (_, given r (Verdict.Accepted _) (v .verdict2 .given .1))
+    (_, record { verdict-is = v .verdict2 .given .1; read = r .read .ensures })
 
 returns : tie.Need-returns
 returns c =
@@ -53,7 +53,7 @@ returns-2 : tie.Need-returns-2
 returns-2 c =
     let p = c .before .before in
     let v = p .before .before .before .before .before in
-    p .run-plan .ensures _ (given (v .before .before) (Verdict.Accepted _) (v .verdict2 .given .1))
+    p .run-plan .ensures _ (record { verdict-is = v .verdict2 .given .1; read = v .before .before .read .ensures })
 
 pub run-read-spec : {M : Type 1} → statement M
 run-read-spec =

@@ -3,14 +3,14 @@ use Prim.Native.Nat.{ℕ}
 use mathlib.Core.Path.{refl}
 use lib.ListN.{length-replicate}
 use Rattle.read_tables.specs.PlanTable.{emptyPlan}
-use Rattle.read_tables.specs.EntryTable.{entryPlaces}
+use Rattle.read_tables.specs.NoteTable.{notePlaces}
 use borrow.Author.Needs.{needs}
 use Rattle.whole_text.proofs.run_text.Statement.{statement}
 use Rattle.whole_text.proofs.run_text.Tie as tie
 
 run-read-requires : tie.Need-run-read-requires
 unfolding emptyPlan
-run-read-requires c κs = (refl, length-replicate {A = ℕ} entryPlaces 0)
+run-read-requires c κs = (refl, length-replicate {A = ℕ} notePlaces 0)
 
 same-length : tie.Need-same-length
 same-length c = search needs

@@ -1,0 +1,2 @@
+-- The single entries of a text without their lines.
+pub mod EntriesAlone

@@ -1,2 +1,0 @@
--- The entries of a text without their lines.
-pub mod EntriesAlone
