@@ -366,7 +366,7 @@ pub struct Machine {
     store: Vec<u32>,
     jobs: Vec<Job>,
     running: [usize; CARDS], // the active job of highest priority on each card, or N
-    entries: usize, // how many have run, a run counted by its steps
+    entries: usize, // how many were accepted, each step counted
     commits: Vec<[usize; 3]>, // the entry, the job, and the update of the job's call
     late: Late,
 }

@@ -64,11 +64,13 @@ REPORT_ROOM = 80000
 
 
 def load_library(path):
-    """The shared library with the types of the two functions that are used here."""
+    """The shared library with the types of the three functions that are used here."""
     try:
         library = ctypes.CDLL(str(path))
         library.point_memory_check.restype = Answer
         library.point_memory_check.argtypes = [ctypes.c_char_p, ctypes.c_size_t]
+        library.point_memory_run.restype = Ended
+        library.point_memory_run.argtypes = [ctypes.c_char_p, ctypes.c_size_t, ctypes.c_char_p, ctypes.c_size_t]
         library.point_memory_run_schedule.restype = Ended
         library.point_memory_run_schedule.argtypes = [
             ctypes.c_char_p, ctypes.c_size_t, ctypes.POINTER(Record), ctypes.c_size_t, ctypes.c_char_p, ctypes.c_size_t
@@ -116,7 +118,8 @@ def end_line(number, line):
 
 
 def library_reports(library, schedule):
-    """The library's report after 0, 1, 2, .. entries."""
+    """The library's report after 0, 1, 2, .. entries, handed in as records. The last one is held against its report of
+    the text itself, so that the entries are those that the text says."""
     plan_text, entries = schedule.plan_text, schedule.entries
     records = (Record * (len(entries) + 1))()  # one more, so that there is an address also without any entry
     for record, (kind, *numbers) in zip(records, entries):
@@ -125,7 +128,12 @@ def library_reports(library, schedule):
     for n in range(len(entries) + 1):
         ended = library.point_memory_run_schedule(plan_text, len(plan_text), records, n, buffer, REPORT_ROOM)
         *lines, _ = buffer[: ended.length].decode().splitlines()
-        yield lines + [end_line(ended.number, schedule.line_of[ended.line])]
+        report = lines + [end_line(ended.number, schedule.line_of[ended.line])]
+        yield report
+    text = b"".join(schedule.lines)
+    ended = library.point_memory_run(text, len(text), buffer, REPORT_ROOM)
+    if buffer[: ended.length].decode().splitlines() != report:
+        raise Trouble("the entries taken from the text are not its own: the library's report of the text is another.")
 
 
 def model_reports(model, schedule):

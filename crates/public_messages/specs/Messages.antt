@@ -16,7 +16,7 @@ meanings =
     ∷ bytes "the first field is no known word, or the last line has no line feed"
     ∷ bytes "a line of this kind cannot stand here, or the text ends too early"
     ∷ bytes "the count of fields is wrong, or one is no number from 0 to 4,294,967,295 without leading zeros"
-    ∷ bytes "one too many: there can be 32 updates, 16 moves in an update and 4,000 entries"
+    ∷ bytes "too many: there can be 32 updates, 16 moves in an update and 4,000 entries"
     ∷ bytes "P and C must be from 1 to 8, and N, B and S from 1 to 16"
     ∷ bytes "the job's card is not below P, or its priority is over 255"
     ∷ bytes "an earlier job has the same card and priority"

@@ -32,7 +32,7 @@ fn put_meaning(buffer: &mut [u8], at: usize, number: usize) -> usize
             b"the first field is no known word, or the last line has no line feed",
             b"a line of this kind cannot stand here, or the text ends too early",
             b"the count of fields is wrong, or one is no number from 0 to 4,294,967,295 without leading zeros",
-            b"one too many: there can be 32 updates, 16 moves in an update and 4,000 entries",
+            b"too many: there can be 32 updates, 16 moves in an update and 4,000 entries",
             b"P and C must be from 1 to 8, and N, B and S from 1 to 16",
             b"the job's card is not below P, or its priority is over 255",
             b"an earlier job has the same card and priority",

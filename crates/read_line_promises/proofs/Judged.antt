@@ -21,6 +21,12 @@ use Rattle.spec_format.specs.Faults.{longestRun, mostEntries}
 use Rattle.spec_format.specs.Reading.{ReadOutcome, refused, sound, after, orElse}
 use Rattle.read_line_promises.specs.Promises.{lineOutcome}
 
+-- The fault of an entry that comes n times behind e single entries, by the rows 16 and 5.
+abbrev pub entryFault : ℕ → ℕ → Option Fault
+entryFault e n =
+    cond (not (within 1 longestRun n)) (some Fault.BadRun)
+    (cond (ltb mostEntries (e + n)) (some Fault.TooMany) none)
+
 module _ (form : Form) (d : Draft) (k : Kind) (known : isUnknown k ≡ false) (here : stands form d k ≡ true) where
   -- What a line that says i comes to.
   abbrev came : Option Directive → ReadOutcome
@@ -75,9 +81,5 @@ module _ (form : Form) (d : Draft) (k : Kind) (known : isUnknown k ≡ false) (h
   -- An entry that comes n times.
   pub entry-judged : (e : Entry) (n : ℕ)
       → came (some (entry e n))
-      ≡ orElse
-      (cond (not (within 1 longestRun n)) (some Fault.BadRun)
-      (cond (ltb mostEntries (d .entries + n)) (some Fault.TooMany) none))
-      (d .lines + 1)
-      (sound (after d (some (entry e n))))
+      ≡ orElse (entryFault (d .entries) n) (d .lines + 1) (sound (after d (some (entry e n))))
   entry-judged e n = rw (known, here)

@@ -32,7 +32,7 @@ drafted n b e same = ap (λ (x : Plan). sound (record { lines = n; blocks = b; e
 
 -- The numbers stay in their ranges where one line without an entry adds one of them.
 pub still-ranged : (p : Progress) (z : Sizes) (n j b u w : ℕ) → Ranged p z n → p .lines < 65536 → j ≤ z .jobs
-    → b ≤ z .blocks → u ≤ 32 → w ≤ 8 → j + b + u ≤ p .lines + 1 → Ranged (onward p j b w) z u
+    → b ≤ z .blocks → u ≤ 32 → w ≤ 8 → j + b + u + p .notes ≤ p .lines + 1 → Ranged (onward p j b w) z u
 still-ranged p z n j b u w r room hj hb hu hw sum =
     record {
       cards = r .cards;

@@ -3,7 +3,7 @@
 use Prim.Native.Nat.{ℕ, _+_, _*_, _≤_, _<_}
 use mathlib.Core.Path.{_≡_, refl, sym, _∙_, ap, subst}
 use mathlib.Core.Logic.{inl, inr}
-use mathlib.Core.Bool.{true, false, cond, not, _||_}
+use mathlib.Core.Bool.{true, false, cond, _||_}
 use mathlib.Core.List.{List, [], _∷_, _++_, append-nil}
 use mathlib.Core.Option.{Option, none, some}
 use native.Mathlib.Nat.{zero-mul, mul-le-mul, add-mul, one-mul}
@@ -23,7 +23,7 @@ use Rattle.spec_format.specs.declared.Move.{Move}
 use Rattle.spec_format.specs.declared.Entry.{Entry}
 use Rattle.spec_format.specs.Plan.{named, tabulate, blocksWritten}
 use Rattle.spec_format.specs.ParsedLines.{Directive, directive, directiveOf, plan, job, block, update, move, entry}
-use Rattle.spec_format.specs.Faults.{inRange, within, taken, someFrom, lastOf, longestRun, mostEntries}
+use Rattle.spec_format.specs.Faults.{inRange, within, taken, someFrom, lastOf, longestRun}
 use Rattle.spec_format.specs.Reading.{addToLast, listed}
 use Rattle.spec_format.proofs.Tabulated.{length-tabulate}
 use Rattle.read_tables.specs.Puts.{part, Put}
@@ -45,7 +45,7 @@ use Rattle.read_line_promises.specs.Promises.{
   LineStep,
 }
 use Rattle.read_line_promises.proofs.Judged.{bad-fields, plan-judged, job-judged, block-judged}
-use Rattle.read_line_promises.proofs.Judged.{update-judged, move-judged, entry-judged}
+use Rattle.read_line_promises.proofs.Judged.{update-judged, move-judged, entryFault, entry-judged}
 use Rattle.read_line_promises.proofs.Updates.{last-is, added-last}
 use Rattle.read_line_promises.proofs.Kept.{onward, drafted, still-ranged, last-filled, sizes-kept, count-kept}
 use Rattle.read_line_promises.proofs.Kept.{ranged-kept, words-kept, jobs-kept, updates-kept, holds-kept}
@@ -435,10 +435,7 @@ update-read p t s u e i n says-it place few room h put put′ =
 module _ (k : Kind) (p : Progress) (x x′ : ReadTables) (i : Option Directive) (y : Entry) (n : ℕ)
     (says-it : i ≡ some (entry y n)) where
   -- An entry that comes n times, and has a fault for that.
-  pub bad-entry : (f : Fault)
-      → cond (not (within 1 longestRun n)) (some Fault.BadRun)
-      (cond (ltb mostEntries (p .entries + n)) (some Fault.TooMany) none)
-      ≡ some f
+  pub bad-entry : (f : Fault) → entryFault (p .entries) n ≡ some f
       → LineStep k p x x′ i (LineRead.Refused f (p .lines + 1))
   bad-entry f bad =
       record {

@@ -67,8 +67,9 @@ pub record Ranged (p : Progress) (sizes : Sizes) (updates : ℕ) : Type 0 where
   pub blocks-written : p .written ≤ 8
   -- Each note has an entry or more, so that there are at most 4,000.
   pub notes-read : p .notes ≤ p .entries
-  -- Jobs, blocks and updates are lines, so before the first line there are none.
-  pub in-lines : p .jobs + p .blocks + updates ≤ p .lines
+  -- Jobs, blocks, updates and notes are lines, so before the first line there are none. A run is one note, whatever
+  -- its n.
+  pub in-lines : p .jobs + p .blocks + updates + p .notes ≤ p .lines
 
 -- Besides, the plan's table is whole, no update has more than 16 moves, and the blocks that the last one writes are
 -- counted.

@@ -6,7 +6,7 @@ use mathlib.Core.List.{List, [], _∷_, _++_, map, map-append, append-assoc}
 use native.Mathlib.Decide.{decLt}
 use native.Mathlib.Numerals.{add-one}
 use native.Mathlib.Omega.{arith}
-use lib.ListN.{length, getD, take, set, replicate, length-append, length-replicate, getD-replicate, length-map}
+use lib.ListN.{length, getD, take, set, replicate, length-append, length-replicate, getD-replicate}
 use lib.ListN.{List·getD-append, List·getD-map}
 use lib.Seq.{take-suc-set, getD-append-add}
 use Rattle.spec_format.specs.declared.Entry.{Entry}

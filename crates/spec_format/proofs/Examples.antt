@@ -49,13 +49,14 @@ rows =
     ∷ record { text = bytes "plan\t1\t1\t1\t1\t1\njob\t0\t255"; verdict = Verdict.Refused Fault.Unknown 2 }
     -- a schedule of 4,000 steps of one card
     ∷ record { text = small "step\t0\t4000\n"; verdict = Verdict.Accepted 4 }
-    -- a run of none, of one too many and of a step, behind a full schedule
+    -- a run of none, of one too many, which is 16 before it is 5, and of a step, behind a full schedule
     ∷ record { text = small "step\t0\t4000\nstep\t0\t0\n"; verdict = Verdict.Refused Fault.BadRun 5 }
     ∷ record { text = small "step\t0\t4000\nstep\t0\t4001\n"; verdict = Verdict.Refused Fault.BadRun 5 }
     ∷ record { text = small "step\t0\t4000\nstep\t0\t1\n"; verdict = Verdict.Refused Fault.TooMany 5 }
     -- a run that passes 4,000 behind a call
     ∷ record { text = small "update\ncall\t0\t0\nstep\t0\t4000\n"; verdict = Verdict.Refused Fault.TooMany 6 }
-    -- a run with a bad number, and with a field too many
+    -- a run with an empty field for its n, with a bad number, and with a field too many
+    ∷ record { text = small "step\t0\t\n"; verdict = Verdict.Refused Fault.Malformed 4 }
     ∷ record { text = small "step\t0\t00\n"; verdict = Verdict.Refused Fault.Malformed 4 }
     ∷ record { text = small "step\t0\t1\t1\n"; verdict = Verdict.Refused Fault.Malformed 4 }
     ∷ []

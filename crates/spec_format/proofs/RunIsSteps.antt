@@ -89,18 +89,18 @@ whole-append (b ∷ c ∷ s) t e =
     go false = rw (byte-lines c s) (front-append b c (eqb c 10) (lines s) (lines t))
 
 -- The plan of an outcome that is no refusal.
-abbrev planIn : ReadOutcome → Option Plan
-planIn (refused f n) = none
-planIn (sound d) = some (d .plan)
+abbrev planRead : ReadOutcome → Option Plan
+planRead (refused f n) = none
+planRead (sound d) = some (d .plan)
 
 -- The plan that lines give after a draft, where no line has a fault.
 abbrev planOf : Form → Draft → List Line → Option Plan
-planOf form d ls = planIn (readLines form d ls)
+planOf form d ls = planRead (readLines form d ls)
 
 -- A line with or without a fault, in front of lines that give the same plan.
 or-plan :
-    (x : Option Fault) (m n : ℕ) (one other : ReadOutcome) → planIn one ≡ planIn other
-    → planIn (orElse x m one) ≡ planIn (orElse x n other)
+    (x : Option Fault) (m n : ℕ) (one other : ReadOutcome) → planRead one ≡ planRead other
+    → planRead (orElse x m one) ≡ planRead (orElse x n other)
 or-plan (some f) m n one other e = refl
 or-plan none m n one other e = e
 
@@ -154,7 +154,7 @@ same-plan form d m n h l [] =
     (by-test (not (lacksJobs d) && not (lacksBlocks d)) (λ t. rw t) (λ t. rw t))
 same-plan form d m n h l (x ∷ xs) =
     let r = parsedIn d x in
-    ap (λ f. planIn (orElse f (m + 1) (readLines form (after (numbered m d) (r .directive)) xs)))
+    ap (λ f. planRead (orElse f (m + 1) (readLines form (after (numbered m d) (r .directive)) xs)))
     (same-fault form d m n h l r)
     ∙ or-plan (firstOf (hasFault form (numbered n d) r) byRank) (m + 1) (n + 1) _ _
     (rw (numbered-after m d (r .directive), numbered-after n d (r .directive))
@@ -185,12 +185,12 @@ room form d n = (takesEntries form && laidOut d) && not (ltb mostEntries (d .ent
 -- bad run.
 found-entry :
     (place run full : Bool) (line : ℕ) (rest : ReadOutcome) → (full ≡ false → run ≡ true)
-    → planIn
+    → planRead
     (orElse
     (cond (not place) (some Fault.Misplaced) (cond (not run) (some Fault.BadRun) (cond full (some Fault.TooMany) none)))
     line
     rest)
-    ≡ cond (place && not full) (planIn rest) none
+    ≡ cond (place && not full) (planRead rest) none
 found-entry false run full line rest h = refl
 found-entry true true true line rest h = refl
 found-entry true true false line rest h = refl
@@ -446,13 +446,13 @@ record Says (form : Form) (text : List ℕ) (p : Plan) (es : List Listed) (k : �
 -- Lines that are accepted give the plan, their entries and their count.
 given-says :
     (ls : List Line) (o : ReadOutcome) (p : Plan) (es : List Listed) (k : ℕ) → given ls o ≡ accepted p es k
-    → (planIn o ≡ some p) × (es ≡ entriesOf (p .sizes .words) 1 ls) × (k ≡ length ls)
+    → (planRead o ≡ some p) × (es ≡ entriesOf (p .sizes .words) 1 ls) × (k ≡ length ls)
 given-says ls (refused f n) p es k e = (cc, cc, cc)
 given-says ls (sound d) p es k e = (cc, cc, cc)
 
 -- Lines that give a plan are accepted with it, their entries and their count.
 plan-given :
-    (ls : List Line) (o : ReadOutcome) (p : Plan) → planIn o ≡ some p
+    (ls : List Line) (o : ReadOutcome) (p : Plan) → planRead o ≡ some p
     → given ls o ≡ accepted p (entriesOf (p .sizes .words) 1 ls) (length ls)
 plan-given ls (refused f n) p e = cc
 plan-given ls (sound d) p e = cc

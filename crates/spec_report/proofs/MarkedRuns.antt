@@ -95,12 +95,12 @@ rows =
       text = upToUpdate (callAndRun 1 ++ (steps 1 ++ run 31));
       printed = "commit\t29\t0\t0\nblock\t7\nend\t0\t9\n";
     }
-    -- "16 when n is outside its range, judged after 4 and before 5": a run of none, of one too many, and of none behind
-    -- a full schedule
+    -- "16 when n is outside its range": a run of none, also behind a full schedule
     ∷ record { text = T-run 0; printed = "end\t16\t7\n" }
-    ∷ record { text = T-run 4001; printed = "end\t16\t7\n" }
     ∷ record { text = upToUpdate (callAndRun 3999 ++ run 0); printed = "end\t16\t8\n" }
+    -- "judged after 4 and before 5": of a bad number, and of a run that is too long and passes 4,000 entries
     ∷ record { text = upToUpdate (bytes "step\t0\t00\n"); printed = "end\t4\t6\n" }
+    ∷ record { text = T-run 4001; printed = "end\t16\t7\n" }
     -- "The n steps count as n entries for the 4,000": a run that passes it, and nothing runs
     ∷ record { text = T-run 4000; printed = "end\t5\t7\n" }
     -- and what no listed run shows: "add (word d becomes word a plus k ..)" where d is not a;

@@ -17,7 +17,7 @@ use Rattle.spec_machine.specs.Machine.{Machine, sharedIn, workOf, seen}
 use Rattle.spec_machine.specs.Entries.{refusalNumber}
 use Rattle.spec_machine.specs.History.{commitsIn, Run}
 
--- The largest number of the table.
+-- No number of the table is larger.
 abbrev pub largestNumber : ℕ
 largestNumber = 16
 

@@ -1,36 +1,28 @@
 -- `entry_line` notes an entry with how many times it comes, and its line. Assumes nothing.
 use Prim.Native.Nat.{ℕ, _+_, _≤_, _<_}
 use mathlib.Core.Path.{_≡_, sym, _∙_, ap}
-use mathlib.Core.Bool.{true, false, cond, not}
-use mathlib.Core.Option.{Option, some, none}
+use mathlib.Core.Option.{some}
 use native.Mathlib.Omega.{arith}
 use borrow.Author.Tests.{le-leb, lt-leb, lt-ltb}
-use lib.Dec.{leb, ltb}
 use Rattle.spec_format.specs.declared.Fault.{Fault}
 use Rattle.spec_format.specs.ParsedLines.{entry}
-use Rattle.spec_format.specs.Faults.{within, longestRun, mostEntries}
 use Rattle.read_line_promises.specs.Promises.{entryDirective}
+use Rattle.read_line_promises.proofs.Judged.{entryFault}
 use Rattle.read_line_promises.proofs.LineKinds.{malformed, bad-entry, entry-read}
 use borrow.Author.Needs.{needs}
 use Rattle.read_entry_lines.proofs.entry_line.Statement.{statement}
 use Rattle.read_entry_lines.proofs.entry_line.Tie as tie
 
--- The fault of an entry that comes n times behind e others.
-abbrev judgement : ℕ → ℕ → Option Fault
-judgement e n =
-    cond (not (within 1 longestRun n)) (some Fault.BadRun)
-    (cond (ltb mostEntries (e + n)) (some Fault.TooMany) none)
-
 -- It does not come at all,
-judged-none : (e n : ℕ) → n < 1 → judgement e n ≡ some Fault.BadRun
+judged-none : (e n : ℕ) → n < 1 → entryFault e n ≡ some Fault.BadRun
 judged-none e n low = rw (lt-leb 1 n low)
 
 -- it comes too often for a run,
-judged-long : (e n : ℕ) → 1 ≤ n → 4000 < n → judgement e n ≡ some Fault.BadRun
+judged-long : (e n : ℕ) → 1 ≤ n → 4000 < n → entryFault e n ≡ some Fault.BadRun
 judged-long e n low high = rw (le-leb 1 n low, lt-leb n 4000 high)
 
 -- or too often for a schedule.
-judged-many : (e n : ℕ) → 1 ≤ n → n ≤ 4000 → 4000 < e + n → judgement e n ≡ some Fault.TooMany
+judged-many : (e n : ℕ) → 1 ≤ n → n ≤ 4000 → 4000 < e + n → entryFault e n ≡ some Fault.TooMany
 judged-many e n low high many = rw (le-leb 1 n low, le-leb n 4000 high, lt-ltb 4000 (e + n) many)
 
 -- The function's start, from where it is known how many times the entry comes.

@@ -1,6 +1,6 @@
 -- `step_line` meets its contract: where a second field follows the card, there are two numbers, else one. Assumes
 -- nothing.
-use Prim.Native.Nat.{ℕ, suc, _+_}
+use Prim.Native.Nat.{ℕ, suc}
 use mathlib.Core.Path.{_≡_, refl, sym, _∙_, ap, subst}
 use mathlib.Core.Bool.{true, false, false≢true}
 use mathlib.Core.List.{List, [], _∷_}
@@ -16,7 +16,7 @@ use Rattle.spec_text.specs.Numbers.{number}
 use Rattle.spec_text.specs.Lines.{andThen, numbers}
 use Rattle.read_fields.specs.FieldPlaces.{fieldsAt}
 use Rattle.spec_format.specs.declared.Kind.{Kind}
-use Rattle.spec_format.specs.ParsedLines.{Directive, stepNumbers, numbersFor, directiveOf}
+use Rattle.spec_format.specs.ParsedLines.{Directive, numbersFor, directiveOf}
 use Rattle.read_few_numbers.specs.declared.Three.{Three}
 use Rattle.read_few_numbers.specs.Three.{asThree}
 use Rattle.read_line_promises.specs.declared.Progress.{Progress}

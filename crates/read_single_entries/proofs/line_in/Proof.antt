@@ -1,13 +1,12 @@
 -- `line_in` meets its contract. The loop's invariant: the single entries of the notes passed so far, and those left to
 -- pass, are the entries before the one looked for. Assumes nothing.
-use Prim.Native.Nat.{ℕ, _+_, _-_, _≤_, _<_}
+use Prim.Native.Nat.{_+_, _-_, _≤_}
 use mathlib.Core.Path.{_≡_, sym, _∙_, ap}
 use native.Mathlib.Omega.{arith}
-use borrow.Author.Needs.{needs}
 use denote.Ref.{now}
 use lib.ListN.{length}
 use Rattle.spec_report.specs.Outcomes.{lineIn}
-use Rattle.read_tables.specs.NoteTable.{noteAt, listedIn}
+use Rattle.read_tables.specs.NoteTable.{listedIn}
 use Rattle.read_single_entries.proofs.SingleEntries.{one-more, line-there, line-past}
 use Rattle.read_single_entries.proofs.line_in.Statement.{statement}
 use Rattle.read_single_entries.proofs.line_in.Tie as tie

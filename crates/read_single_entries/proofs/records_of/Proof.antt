@@ -2,11 +2,11 @@
 -- the first ones are the single entries of the notes so far. The inner loop's: behind those, the entry of the present
 -- note stands as many times as turns so far. Assumes nothing.
 use Prim.Native.Nat.{ℕ, suc, _+_, _-_, _≤_, _<_}
-use mathlib.Core.Path.{_≡_, refl, sym, _∙_, ap, subst}
+use mathlib.Core.Path.{_≡_, refl, sym, _∙_, subst}
 use mathlib.Core.List.{List, _++_, append-nil}
 use native.Mathlib.Nat.{le-antisymm}
 use native.Mathlib.Omega.{arith}
-use lib.ListN.{length, take, set, replicate, length-set}
+use lib.ListN.{length, take, replicate, length-set}
 use denote.Ref.{now}
 use Rattle.spec_format.specs.declared.Entry.{Entry}
 use Rattle.read_tables.specs.NoteTable.{noteAt, listedIn}
