@@ -1,7 +1,8 @@
-//! Document 01 with document 02's runs of steps in plain Rust: the text's check (numbers 1 to 10 and 16), the machine
-//! (the step list A1 to H42, refusals 11 to 14), the report (refusal 15), and the run of a schedule of records beside a
-//! plan's text. It is an independent implementation, written from the documents alone; the proved one is compared with
-//! it, in its answers and in its time. It also counts the late stores of a run. Nothing here is proved.
+//! Document 01 with document 02's runs of steps and update numbers in plain Rust: the text's check (numbers 1 to 10, 16
+//! and 17), the machine (the step list A1 to H42, refusals 11 to 14), the report (refusal 15), and the run of a
+//! schedule of records beside a plan's text. It is an independent implementation, written from the documents alone; the
+//! proved one is compared with it, in its answers and in its time. It also counts the late stores of a run. Nothing
+//! here is proved.
 
 /// The most cards, jobs, blocks, words of a block, and blocks that one update may write.
 const CARDS: usize = 8;
@@ -208,13 +209,7 @@ impl Reader {
             (b"plan", Stage::Plan) => self.plan_line(numbers(fields)?),
             (b"job", Stage::Jobs) => self.job_line(numbers(fields)?),
             (b"block", Stage::Blocks) => self.block_line(fields),
-            (b"update", Stage::Updates | Stage::Moves) => {
-                let [] = numbers(fields)?;
-                demand(self.plan.updates.len() < 32, 5)?;
-                self.plan.updates.push(Vec::with_capacity(16));
-                (self.stage, self.written) = (Stage::Moves, 0);
-                Ok(())
-            }
+            (b"update", Stage::Updates | Stage::Moves) => self.update_line(numbers(fields)?),
             (b"copy", Stage::Moves) => numbers(fields).and_then(|[d, a]| self.move_line(d, Some(a), 0)),
             (b"set", Stage::Moves) => numbers(fields).and_then(|[d, k]| self.move_line(d, None, k)),
             (b"add", Stage::Moves) => numbers(fields).and_then(|[d, a, k]| self.move_line(d, Some(a), k)),
@@ -253,6 +248,16 @@ impl Reader {
         for field in fields { plan.memory.push(number(field).ok_or(4usize)?); }
         demand(plan.memory.len() == length, 4)?;
         if length == plan.blocks * plan.words { self.stage = Stage::Updates; }
+        Ok(())
+    }
+
+    /// A line `update n`, n being how many updates come before it.
+    fn update_line(&mut self, [n]: [usize; 1]) -> Result<(), usize> {
+        let updates = &mut self.plan.updates;
+        demand(updates.len() < 32, 5)?;
+        demand(n == updates.len(), 17)?;
+        updates.push(Vec::with_capacity(16));
+        (self.stage, self.written) = (Stage::Moves, 0);
         Ok(())
     }
 

@@ -1,6 +1,6 @@
 //! The cases of the comparison: sound plans of all sizes with schedules in which cards are delayed, steps joined into
-//! runs, entries that are refused, damaged texts, and texts and schedules about the greatest length. All of it comes
-//! from one seed a case.
+//! runs, updates numbered wrongly, entries that are refused, damaged texts, and texts and schedules about the greatest
+//! length. All of it comes from one seed a case.
 
 use crate::plain::{self, Entry, Machine, Plan, Record};
 
@@ -120,8 +120,8 @@ fn plan_lines(random: &mut Random, sizes: &Sizes) -> Vec<String> {
         let words: Vec<u32> = (0..sizes.words).map(|_| value(random)).collect();
         lines.push(line("block", &words));
     }
-    for _ in 0..sizes.updates {
-        lines.push(line("update", &[]));
+    for update in 0..sizes.updates {
+        lines.push(line("update", &[update as u32]));
         let mut written = Vec::new();
         for _ in 0..random.between(0, sizes.moves) {
             let mut word = random.below(sizes.blocks * sizes.words);
@@ -407,8 +407,8 @@ fn damage_lines(random: &mut Random, sizes: &Sizes, lines: &mut Vec<String>, pla
         }
         // Updates up to 32, or over, likewise.
         16 => {
-            let added = vec!["update".to_string(); random.between(32, 34) - sizes.updates];
-            insert_all(random, lines, plan, added);
+            let end = random.between(32, 34);
+            insert_all(random, lines, plan, update_lines(sizes.updates, end));
         }
         _ => lines.truncate(at),
     }
@@ -442,6 +442,67 @@ fn put_run(random: &mut Random, sizes: &Sizes, lines: &mut Vec<String>, plan: us
     let first = random.of(&[0, plan, plan, plan, plan, lines.len(), lines.len()]);
     let at = random.between(first, lines.len());
     lines.insert(at, format!("step\t{card}\t{count}"));
+}
+
+/// The lines of updates numbered from the first to before the end.
+fn update_lines(first: usize, end: usize) -> Vec<String> {
+    (first..end).map(|update| line("update", &[update as u32])).collect()
+}
+
+/// The line of an update whose right number is the given one. Its number is that, another one, often near it or like it
+/// in its last bits, or no good one; or it has none, or a field more.
+fn update_line(random: &mut Random, right: usize) -> String {
+    let (below, any) = (right.saturating_sub(1), random.below(34));
+    let field = match random.below(8) {
+        0 => right.to_string(),
+        1..=3 => random.of(&[below, right + 1, right + 1, right + 2, any]).to_string(),
+        4 => random.of(&[right + 32, right + 256, right + 65_536, (1 << 31) + right, u32::MAX as usize]).to_string(),
+        5 => random.of(&[u32::MAX as usize + 1, u32::MAX as usize + 1 + right]).to_string(),
+        6 => random.of(&FIELDS).to_string(),
+        _ => match random.below(4) {
+            0 => return "update".to_string(),
+            1 => format!("0{right}"),
+            2 => format!("{right}\t"),
+            _ => format!("{}\t{right}", random.of(&[right, below])),
+        },
+    };
+    format!("update\t{field}")
+}
+
+/// Numbers updates wrongly or awkwardly: one of them, all from one of them on, or two exchanged; or puts in one more,
+/// after the plan's last or among the entries, or as many as make it a 33rd.
+fn misnumber(random: &mut Random, lines: &mut Vec<String>, plan: usize) {
+    let places: Vec<usize> = (0..plan).filter(|&place| lines[place].starts_with("update")).collect();
+    let (count, entries) = (places.len(), lines.len() - plan);
+    match random.below(8) {
+        0 | 1 if count > 0 => {
+            let which = random.below(count);
+            lines[places[which]] = update_line(random, which);
+        }
+        // Too high or too low by one: a number is skipped or repeated, or they count from 1.
+        2 | 3 if count > 0 => {
+            let first = if random.one_in(2) { 0 } else { random.below(count) };
+            let low = first > 0 && random.one_in(2);
+            for (which, &place) in places.iter().enumerate().skip(first) {
+                lines[place] = line("update", &[if low { which - 1 } else { which + 1 } as u32]);
+            }
+        }
+        4 if count > 1 => {
+            let first = random.below(count - 1);
+            let second = if random.one_in(2) { first + 1 } else { random.between(first + 1, count - 1) };
+            lines.swap(places[first], places[second]);
+        }
+        5 if entries > 0 => {
+            let at = plan + random.between(1, entries);
+            lines.insert(at, update_line(random, count));
+        }
+        6 => {
+            let mut added = update_lines(count, 32);
+            added.push(update_line(random, 32));
+            lines.splice(plan..plan, added);
+        }
+        _ => lines.insert(plan, update_line(random, count)),
+    }
 }
 
 /// Does one damage to the bytes of a text.
@@ -488,6 +549,9 @@ pub fn case(random: &mut Random) -> Case {
     let plan_length = lines.len();
     if !as_records || random.one_in(40) {
         lines.extend(entry_lines(random, &records));
+    }
+    if random.one_in(16) {
+        misnumber(random, &mut lines, plan_length);
     }
     if random.one_in(if as_records { 40 } else { 6 }) {
         for _ in 0..random.of(&[1, 1, 2]) {

@@ -7,9 +7,9 @@
 // A case is a text, or a plan's text and records, with a lent buffer of some room. Both checks are asked of the text,
 // and it is run; the answers have to be the same, and so has every byte of the buffer and beside it. The cases are
 // shared by two threads, whose stacks are as long as include/point_memory.h asks for. Printed are the counts of cases
-// and differences, and how often runs of steps, each number and each late store were met. The status is 1 where
-// something differs or was hardly met. The first case that differs is then in target/difference.txt, and
-// `target/compare NUMBER` runs it alone.
+// and differences, and how often runs of steps, each number, each order of judgement about 17 and each late store were
+// met. The status is 1 where something differs or was hardly met. The first case that differs is then in
+// target/difference.txt, and `target/compare NUMBER` runs it alone.
 
 mod cases;
 #[path = "../bench/library.rs"]
@@ -28,9 +28,10 @@ const THREADS: u64 = 2;
 /// The stack of each thread.
 const STACK: usize = 256 * 1024;
 
-/// In how many cases each number and each late store has to be met, and in how many runs of steps and their 16.
+/// In how many cases each number, each order about 17 and each late store has to be met, and in how many runs of steps,
+/// their 16, and 17.
 const OFTEN: usize = 100;
-const RUNS_OFTEN: usize = 500;
+const MORE_OFTEN: usize = 500;
 
 /// The length of a buffer that is enough for every report, and the bytes kept on both sides of a lent one.
 const ROOM: usize = 80_000;
@@ -38,6 +39,14 @@ const MARGIN: usize = 16;
 
 /// What stands in memory behind a text: it would count if the text were read past its end.
 const BEHIND: &[u8] = b"1\nstep\t0\n";
+
+/// What the check can answer at an update's line to show an order of judgement about 17, as `order_shown` counts it.
+const ORDERS: [&str; 4] = [
+    "3 behind an entry, the number wrong",
+    "3 behind an entry, the fields bad",
+    "4, and it is a 33rd update",
+    "5, and the number is wrong",
+];
 
 /// The late stores, in the order of `late_counts`.
 const LATE: [&str; 7] = [
@@ -61,8 +70,9 @@ fn late_counts(late: Late) -> [usize; 7] {
 struct Tally {
     texts: usize,
     schedules: usize,
-    numbers: [[usize; 17]; 4],
+    numbers: [[usize; 18]; 4],
     runs: [usize; 2], // accepted texts with a run of steps, and texts with 14 in a run
+    orders: [usize; 4],
     late: [usize; 7],
     late_cases: [usize; 7],
     differences: usize,
@@ -78,20 +88,22 @@ impl Tally {
             add_all(numbers, others);
         }
         add_all(&mut self.runs, &other.runs);
+        add_all(&mut self.orders, &other.orders);
         add_all(&mut self.late, &other.late);
         add_all(&mut self.late_cases, &other.late_cases);
         self.differences += other.differences;
         self.first = self.first.take().into_iter().chain(other.first).min_by_key(|first| first.0);
     }
 
-    /// Whether runs of steps, each number and each late store were met often. A plan's text has no runs, so that
-    /// nothing beside it is refused with 16.
+    /// Whether runs of steps, each number, each order about 17 and each late store were met often. A plan's text has no
+    /// runs, so that nothing beside it is refused with 16.
     fn is_enough(&self) -> bool {
         let [check, check_plan, run, schedule] = &self.numbers;
         let checks = check[..11].iter().chain(&check_plan[..11]);
         let numbers = checks.chain(&run[..16]).chain(&schedule[..16]);
-        numbers.chain(&self.late_cases).all(|&met| met >= OFTEN)
-            && self.runs.iter().chain([&check[16], &run[16]]).all(|&met| met >= RUNS_OFTEN)
+        let more = [check[16], run[16], check[17], check_plan[17], run[17], schedule[17]];
+        numbers.chain(&self.orders).chain(&self.late_cases).all(|&met| met >= OFTEN)
+            && self.runs.iter().chain(&more).all(|&met| met >= MORE_OFTEN)
     }
 
     /// Prints everything.
@@ -102,9 +114,14 @@ impl Tally {
         println!("{} accepted texts with runs of steps, {} texts with 14 in a run", self.runs[0], self.runs[1]);
         println!();
         println!("{:10} {:>12} {:>12} {:>12} {:>12}", "number", "check", "check_plan", "run", "run_schedule");
-        for number in 0..17 {
+        for number in 0..18 {
             let [check, check_plan, run, schedule] = [0, 1, 2, 3].map(|function| self.numbers[function][number]);
             println!("{number:<10} {check:>12} {check_plan:>12} {run:>12} {schedule:>12}");
+        }
+        println!();
+        println!("{:36} {:>12}", "the check's answer at an update", "in cases");
+        for (name, met) in ORDERS.iter().zip(&self.orders) {
+            println!("{name:36} {met:>12}");
         }
         println!();
         println!("{:36} {:>12} {:>12}", "late store", "times", "in cases");
@@ -124,6 +141,33 @@ fn add_all(counts: &mut [usize], others: &[usize]) {
 /// Whether a line is a run of steps.
 fn is_run(line: &[u8]) -> bool {
     line.starts_with(b"step\t") && line.iter().filter(|&&byte| byte == b'\t').count() == 2
+}
+
+/// The number of an update's line, if it has one good number and nothing else.
+fn update_number(line: &str) -> Option<usize> {
+    let field = line.strip_prefix("update\t")?;
+    field.parse().ok().filter(|number: &u32| number.to_string() == field).map(|number| number as usize)
+}
+
+/// Which place of ORDERS the check's answer belongs to, if its line is an update's. The update's right number is the
+/// count of updates before it.
+fn order_shown(text: &[u8], answer: Answer) -> Option<usize> {
+    if !(3..=5).contains(&answer.number) {
+        return None;
+    }
+    let mut lines = text.split(|&byte| byte == b'\n').map(String::from_utf8_lossy);
+    let is_update = |line: &str| line == "update" || line.starts_with("update\t");
+    let before: Vec<_> = lines.by_ref().take(answer.line.checked_sub(1)?).collect();
+    let right = before.iter().filter(|line| is_update(line)).count();
+    let behind_entry = before.last().is_some_and(|line| line.starts_with("call\t") || line.starts_with("step\t"));
+    let line = lines.next().filter(|line| is_update(line))?;
+    match (answer.number, update_number(&line)) {
+        (3, Some(number)) if behind_entry && number != right => Some(0),
+        (3, None) if behind_entry => Some(1),
+        (4, None) if right == 32 => Some(2),
+        (5, Some(number)) if number != right => Some(3),
+        _ => None,
+    }
 }
 
 /// The room to lend for a report of a length: none, too little, exactly as much, or more.
@@ -207,6 +251,9 @@ fn compare(number: u64, ample: &mut [u8], tally: &mut Tally) {
         14 if function == 2 => tally.runs[1] += usize::from(lines.nth(ended.line - 1).is_some_and(is_run)),
         _ => (),
     }
+    if let Some(order) = order_shown(text, plain.checks[0]) {
+        tally.orders[order] += 1;
+    }
     tally.texts += usize::from(case.records.is_none());
     tally.schedules += usize::from(case.records.is_some());
     tally.numbers[0][plain.checks[0].number] += 1;
@@ -243,7 +290,8 @@ fn main() {
     tally.print();
     let enough = alone.is_some() || tally.is_enough();
     if !enough {
-        println!("\nA number or a late store was met in fewer than {OFTEN} cases, or runs in fewer than {RUNS_OFTEN}.");
+        println!("\nA number, an order about 17 or a late store was met in fewer than {OFTEN} cases,");
+        println!("or runs of steps, 16 or 17 in fewer than {MORE_OFTEN}.");
     }
     if let Some((number, how)) = &tally.first {
         println!("\nCase {number} differs: see target/difference.txt.");

@@ -2,8 +2,9 @@
 under the item's label. It is an example to read and to replace by your own; compare.py holds it against the proved
 library after each entry.
 
-It takes the text to be an accepted one. The library refuses bad texts (1 to 10 and 16 of the table), and compare.py
-asks it first. As a program the model runs the text on standard input and prints the report; from the project's root:
+It takes the text to be an accepted one. The library refuses bad texts (1 to 10, 16 and 17 of the table), and
+compare.py asks it first. As a program the model runs the text on standard input and prints the report; from the
+project's root:
 
     python3 examples/card_model.py < examples/three-cards.txt
 
@@ -19,13 +20,14 @@ UNDECIDED = -1
 
 
 class Plan:
-    """A plan: P, N, B, S and C, the jobs as (card, priority), the opening words of each block, and the updates.
+    """A plan: P, N, B, S and C, the jobs as (card, priority), the opening words of each block, and the updates by their
+    numbers.
 
     A move is (d, a, k): word d becomes word a plus k. A copy has 0 for k; a set has None for a and becomes k."""
 
     def __init__(self, text):
         """Reads the plan's lines of an accepted text; its entries are left to entries_of."""
-        self.jobs, self.blocks, self.updates = [], [], []
+        self.jobs, self.blocks, self.updates = [], [], {}
         for line in text.splitlines():
             kind, *fields = line.split("\t")
             numbers = [int(field) for field in fields]
@@ -36,16 +38,17 @@ class Plan:
             elif kind == "block":
                 self.blocks.append(numbers)
             elif kind == "update":
-                self.updates.append([])
+                [n] = numbers
+                self.updates[n] = []
             elif kind == "copy":
                 d, a = numbers
-                self.updates[-1].append((d, a, 0))
+                self.updates[n].append((d, a, 0))
             elif kind == "set":
                 d, k = numbers
-                self.updates[-1].append((d, None, k))
+                self.updates[n].append((d, None, k))
             elif kind == "add":
                 d, a, k = numbers
-                self.updates[-1].append((d, a, k))
+                self.updates[n].append((d, a, k))
 
 
 def entries_of(text):
@@ -108,7 +111,7 @@ class CardModel:
     def entry(self, kind, first, second=None):
         """Judges one entry and runs it: 0, or the refusal's number from 11 to 14, which leaves the state as it was."""
         if kind == "call":
-            if first >= self.plan.N or second >= len(self.plan.updates):
+            if first >= self.plan.N or second not in self.plan.updates:
                 return 11  # no such job or no such update
             job = self.jobs[first]
             if job.place is not None:

@@ -1,6 +1,6 @@
 /*
  * Links the library from C: checks and runs a text, runs the same schedule as records beside the plan's text, and
- * prints both reports. The status is 0 only if every answer is what document 01 says. From the project's root:
+ * prints both reports. The status is 0 only if every answer is what the documents say. From the project's root:
  *
  * rt staticlib public_point_memory
  * cc -std=c99 -O2 -I include examples/link.c -L target/staticlib -l:libpublic_point_memory.a -o target/link_c
@@ -16,7 +16,7 @@
 static const char plan[] = "plan\t1\t1\t1\t1\t1\n"
                            "job\t0\t0\n"
                            "block\t5\n"
-                           "update\n"
+                           "update\t0\n"
                            "add\t0\t0\t2\n";
 
 /* Prints how a run ended and its report; answers whether they are the expected ones. */

@@ -1,11 +1,11 @@
 // Links the library from Rust: runs a text, then the same schedule as records beside the plan's text, and prints both
-// reports. The status is 0 only if they are what document 01 says. From the project's root:
+// reports. The status is 0 only if they are what the documents say. From the project's root:
 //
 // rt staticlib public_point_memory
 // rustc -O examples/link.rs -L target/staticlib -l static=public_point_memory -o target/link_rs && target/link_rs
 
 /// A plan of one card, job, block and word; its update adds 2 to the word.
-const PLAN: &str = "plan\t1\t1\t1\t1\t1\njob\t0\t0\nblock\t5\nupdate\nadd\t0\t0\t2\n";
+const PLAN: &str = "plan\t1\t1\t1\t1\t1\njob\t0\t0\nblock\t5\nupdate\t0\nadd\t0\t0\t2\n";
 
 /// The steps in which the call is carried out and returns.
 const STEPS: usize = 33;

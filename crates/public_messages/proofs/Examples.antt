@@ -37,8 +37,14 @@ rows =
       entry = 0;
       said = "line 7: refused with 16: a run has from 1 to 4,000 steps\n";
     }
+    ∷ record {
+      number = 17;
+      line = 4;
+      entry = 0;
+      said = "line 4: refused with 17: the update's number is not the next one: updates are numbered from 0 as they come\n";
+    }
     ∷ record { number = 0; line = 39; entry = 0; said = "" }
-    ∷ record { number = 17; line = 1; entry = 0; said = "" }
+    ∷ record { number = 18; line = 1; entry = 0; said = "" }
     ∷ []
 
 -- Every row is said so.

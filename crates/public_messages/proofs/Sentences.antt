@@ -60,12 +60,14 @@ pub accepted-silent : (number line entry : ℕ) (before : List ℕ) → number �
 accepted-silent number line entry before is = rw is (refl, ((omega arith, refl), refl))
 
 -- nor of what lies past the table.
-pub past-silent : (number line entry : ℕ) (before : List ℕ) → 17 ≤ number → Said number line entry before 0 before
+pub past-silent : (number line entry : ℕ) (before : List ℕ) → length meanings ≤ number
+    → Said number line entry before 0 before
 past-silent number line entry before past =
-    rw (le-ltb number 17 past, and-false (ltb 0 number)) (refl, ((omega arith, refl), refl))
+    rw (le-ltb number (length meanings) past, and-false (ltb 0 number)) (refl, ((omega arith, refl), refl))
 
 -- Of a refusal the line is said, for which there is room.
-pub refused-said : (number line entry : ℕ) {before after : List ℕ} {next : ℕ} → 0 < number → number < 17
+pub refused-said : (number line entry : ℕ) {before after : List ℕ} {next : ℕ} → 0 < number
+    → number < length meanings
     → 161 ≤ length before → Writes (refusalLine number line entry) 161 0 before next after
     → Said number line entry before next after
 refused-said number line entry {before} some few long w =
@@ -73,4 +75,4 @@ refused-said number line entry {before} some few long w =
     let short : length said ≤ length before = omega (arith, w .next-is, w .at-most, long) in
     let all = w .next-is ∙ zero-add _ in
     let first = w .after-is ∙ put-whole before said short in
-    rw (lt-ltb 0 number some, lt-ltb number 17 few) (all, (counts said before all first, first))
+    rw (lt-ltb 0 number some, lt-ltb number (length meanings) few) (all, (counts said before all first, first))

@@ -7,14 +7,17 @@ ghost use lib.ListN.{length, getD};
 ghost use Rattle.spec_text.specs.FirstPlaces.{inFirstPlaces};
 ghost use Rattle.io.specs.Counts.{Counts};
 ghost use Rattle.report_bytes.specs.Writes.{Writes};
-ghost use Rattle.public_messages.specs.Messages.{meaning, entryPart, whereMet, refusalLine, message};
+ghost use Rattle.public_messages.specs.Messages.{meanings, meaning, entryPart, whereMet, refusalLine, message};
 
 // Room for every line.
 pub const MESSAGE: usize = 200;
 
+// The numbers that have a sentence are those below this one.
+const NUMBERS: usize = 18;
+
 // The sentence of a table that stands at a place.
-fn sentence_at<'a>(sentences: [&'a [u8]; 17], number: usize) -> &'a [u8]
-    requires { ⌜ number < 17 ⌝ }
+fn sentence_at<'a>(sentences: [&'a [u8]; NUMBERS], number: usize) -> &'a [u8]
+    requires { ⌜ number < length meanings ⌝ }
     ensures { λ r. ⌜ now r ≡ getD (map now (sentences .entry)) number [] ⌝ }
 {
     sentences[number]
@@ -22,7 +25,7 @@ fn sentence_at<'a>(sentences: [&'a [u8]; 17], number: usize) -> &'a [u8]
 
 // What a number means.
 fn put_meaning(buffer: &mut [u8], at: usize, number: usize) -> usize
-    requires { ⌜ (number < 17) × (at + 100 ≤ 4294967296) ⌝ }
+    requires { ⌜ (number < length meanings) × (at + 100 ≤ 4294967296) ⌝ }
     ensures { λ r. ⌜ Writes (meaning number) 100 at (now (buffer .entry)) r (now (buffer .exit)) ⌝ }
 {
     let meaning = sentence_at(
@@ -44,6 +47,7 @@ fn put_meaning(buffer: &mut [u8], at: usize, number: usize) -> usize
             b"no job is active on the card",
             b"the report is longer than the buffer",
             b"a run has from 1 to 4,000 steps",
+            b"the update's number is not the next one: updates are numbered from 0 as they come",
         ],
         number,
     );
@@ -77,7 +81,7 @@ fn put_where_met(buffer: &mut [u8], line: u32, entry: u32) -> usize
 
 // The line of a refusal, at the buffer's start.
 fn put_refusal(buffer: &mut [u8], number: u32, line: u32, entry: u32) -> usize
-    requires { ⌜ number < 17 ⌝ }
+    requires { ⌜ number < length meanings ⌝ }
     ensures { λ r. ⌜ Writes (refusalLine number line entry) 161 0 (now (buffer .entry)) r (now (buffer .exit)) ⌝ }
 {
     let start = put_where_met(buffer, line, entry);
@@ -98,7 +102,7 @@ pub fn explain(number: u32, line: u32, entry: u32, buffer: &mut [u8; MESSAGE]) -
     if number == 0 {
         return 0;
     }
-    if number > 16 {
+    if number as usize >= NUMBERS {
         return 0;
     }
     put_refusal(buffer, number, line, entry)

@@ -12,7 +12,7 @@ use spec_format::Entry;
 use spec_format::Form;
 use step_cells::CELL_PLACES;
 
-// Judges a text by the numbers 1 to 10 and 16: see public_reference::check.
+// Judges a text by the numbers 1 to 10, 16 and 17: see public_reference::check.
 #[no_mangle]
 pub extern "C" fn point_memory_check(text: &[u8]) -> Answer
     ensures { λ r. ⌜ r ≡ answerOf (verdictOf (reading Form.Schedule (now (text .entry)))) ⌝ }

@@ -24,7 +24,7 @@ pub struct Printed {
 }
 
 // Runs a text. What is to be printed then stands in the first places of the buffer: the report, or `end number line`
-// alone for 1 to 10 and 16.
+// alone for 1 to 10, 16 and 17.
 pub fn print_run(text: &[u8], buffer: &mut [u8; OUTPUT]) -> Printed
     ensures { λ r. ⌜ r ≡ runAnswer (runText (now (text .entry))) ⌝ }
     ensures { λ r. ⌜ Counts (r .length) (now (buffer .exit)) ⌝ }

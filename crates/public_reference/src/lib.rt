@@ -18,7 +18,7 @@ pub struct Answer {
     pub line: usize,
 }
 
-// Judges a text by the numbers 1 to 10 and 16. In a text of the form PlanAlone an entry cannot stand.
+// Judges a text by the numbers 1 to 10, 16 and 17. In a text of the form PlanAlone an entry cannot stand.
 pub fn check(text: &[u8], form: Form) -> Verdict
     ensures { λ r. ⌜ r ≡ verdictOf (reading form (now (text .entry))) ⌝ }
 {

@@ -32,6 +32,7 @@ use Rattle.read_line_promises.specs.Promises.{
   LineStep,
   LineDone,
   Standing,
+  updateDirective,
   moveDirective,
   entryDirective,
 }
@@ -55,6 +56,11 @@ module _ (k met : Kind) (s : ℕ) (fs : List (List ℕ)) (p : Progress) (x x′ 
       at-kind
       (subst (λ (i : Option Directive). LineStep met p x x′ i r)
       (ap says is ∙ same (numbersFor s met fs)) step)
+
+-- What the line `update n` says is what the definitions say.
+pub says-update : (o : Option (List ℕ)) → updateDirective (asThree o) ≡ directiveOf Kind.Update o
+says-update none = refl
+says-update (some ns) = refl
 
 -- The kind of a line that holds a move.
 abbrev moveLine : MoveKind → Kind

@@ -40,7 +40,7 @@ fn read_kind(
         Kind::Plan => read_plan_lines::plan_line(line, at, p, plan),
         Kind::Job => read_plan_lines::job_line(line, at, p, plan),
         Kind::Block => read_plan_lines::block_line(line, at, p, plan),
-        Kind::Update => read_update_lines::update_line(line, at, p, plan),
+        Kind::Update => read_update_lines::update_line(three_at(line, at, 1), p, plan),
         Kind::Copy => read_update_lines::move_line(MoveKind::Copy, three_at(line, at, 2), p, plan),
         Kind::Set => read_update_lines::move_line(MoveKind::Set, three_at(line, at, 2), p, plan),
         Kind::Add => read_update_lines::move_line(MoveKind::Add, three_at(line, at, 3), p, plan),

@@ -5,7 +5,7 @@ use mathlib.Core.Path.{_≡_}
 use mathlib.Core.Bool.{true, false, cond, not, _||_}
 use mathlib.Core.List.{List, [], _∷_, _++_}
 use mathlib.Core.Option.{Option, none, some}
-use lib.Dec.{ltb, leb}
+use lib.Dec.{ltb, leb, eqb}
 use lib.ListN.{length}
 use Rattle.spec_format.specs.declared.Fault.{Fault}
 use Rattle.spec_format.specs.declared.Form.{Form}
@@ -26,6 +26,11 @@ abbrev pub entryFault : ℕ → ℕ → Option Fault
 entryFault e n =
     cond (not (within 1 longestRun n)) (some Fault.BadRun)
     (cond (ltb mostEntries (e + n)) (some Fault.TooMany) none)
+
+-- The fault of an update with the number n behind so many updates, by the rows 5 and 17.
+abbrev pub updateFault : ℕ → ℕ → Option Fault
+updateFault updates n =
+    cond (leb 32 updates) (some Fault.TooMany) (cond (not (eqb n updates)) (some Fault.Misnumbered) none)
 
 module _ (form : Form) (d : Draft) (k : Kind) (known : isUnknown k ≡ false) (here : stands form d k ≡ true) where
   -- What a line that says i comes to.
@@ -56,12 +61,11 @@ module _ (form : Form) (d : Draft) (k : Kind) (known : isUnknown k ≡ false) (h
   pub block-judged : (ws : List ℕ) → came (some (block ws)) ≡ sound (after d (some (block ws)))
   block-judged ws = rw (known, here)
 
-  -- An update.
-  pub update-judged :
-      came (some update)
-      ≡ orElse (cond (leb 32 (length (d .plan .updates))) (some Fault.TooMany) none) (d .lines + 1)
-      (sound (after d (some update)))
-  update-judged = rw (known, here)
+  -- An update with the number n.
+  pub update-judged : (n : ℕ)
+      → came (some (update n))
+      ≡ orElse (updateFault (length (d .plan .updates)) n) (d .lines + 1) (sound (after d (some (update n))))
+  update-judged n = rw (known, here)
 
   -- A move.
   pub move-judged : (m : Move)

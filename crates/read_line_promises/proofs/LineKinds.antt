@@ -9,7 +9,7 @@ use mathlib.Core.Option.{Option, none, some}
 use native.Mathlib.Nat.{zero-mul, mul-le-mul, add-mul, one-mul}
 use native.Mathlib.Numerals.{add-one}
 use native.Mathlib.Omega.{arith}
-use borrow.Author.Tests.{leb-true, le-leb, lt-leb, lt-ltb, le-ltb}
+use borrow.Author.Tests.{leb-true, le-leb, lt-leb, lt-ltb, le-ltb, eq-eqb}
 use lib.Dec.{ltb, leb}
 use lib.ListN.{length}
 use Rattle.spec_text.proofs.Cases.{both}
@@ -45,7 +45,7 @@ use Rattle.read_line_promises.specs.Promises.{
   LineStep,
 }
 use Rattle.read_line_promises.proofs.Judged.{bad-fields, plan-judged, job-judged, block-judged}
-use Rattle.read_line_promises.proofs.Judged.{update-judged, move-judged, entryFault, entry-judged}
+use Rattle.read_line_promises.proofs.Judged.{updateFault, update-judged, move-judged, entryFault, entry-judged}
 use Rattle.read_line_promises.proofs.Updates.{last-is, added-last}
 use Rattle.read_line_promises.proofs.Kept.{onward, drafted, still-ranged, last-filled, sizes-kept, count-kept}
 use Rattle.read_line_promises.proofs.Kept.{ranged-kept, words-kept, jobs-kept, updates-kept, holds-kept}
@@ -327,19 +327,19 @@ block-read p t u e ws i says-it many more room h put =
     updates : tabulate (updatesIn u) (updateAt u) ≡ tabulate (updatesIn t) (updateAt t)
     updates = updates-kept h count counts moves
 
--- The 33rd update.
-pub many-updates : (p : Progress) (x x′ : ReadTables) (i : Option Directive) → i ≡ some update
-    → 32 ≤ updatesIn (x .plan)
-    → LineStep Kind.Update p x x′ i (LineRead.Refused Fault.TooMany (p .lines + 1))
-many-updates p x x′ i e many =
+-- An update with the number n, and a fault of its own.
+pub bad-update : (k : Kind) (p : Progress) (x x′ : ReadTables) (i : Option Directive) (n : ℕ) → i ≡ some (update n)
+    → (f : Fault) → updateFault (updatesIn (x .plan)) n ≡ some f
+    → LineStep k p x x′ i (LineRead.Refused f (p .lines + 1))
+bad-update k p x x′ i n says-it f bad =
     record {
       says =
           λ form u s.
           rw (
-            e,
-            update-judged form (draftOf p (x .plan)) Kind.Update u s,
+            says-it,
+            update-judged form (draftOf p (x .plan)) k u s n,
             length-tabulate (updatesIn (x .plan)) (updateAt (x .plan)),
-            le-leb 32 (updatesIn (x .plan)) many,
+            bad,
           );
       holds = tt;
       noted = tt;
@@ -350,21 +350,22 @@ empty-written : (s : ℕ) → length (blocksWritten s []) ≡ 0
 unfolding blocksWritten
 empty-written s = refl
 
--- An update starts without moves.
-pub update-read : (p : Progress) (t s u e : List ℕ) (i : Option Directive) (n : ℕ) → i ≡ some update → updatesIn t ≡ n
-    → n < 32 → p .lines < 65536 → Consistent p t
+-- An update with the next number starts without moves.
+pub update-read : (k : Kind) (p : Progress) (t s u e : List ℕ) (i : Option Directive) (n : ℕ) → i ≡ some (update n)
+    → updatesIn t ≡ n → n < 32 → p .lines < 65536 → Consistent p t
     → Put (countsAt + n) (0 ∷ []) t s → Put updatesAt ((n + 1) ∷ []) s u
-    → LineStep Kind.Update p (readTables t e) (readTables u e) i
+    → LineStep k p (readTables t e) (readTables u e) i
     (LineRead.Read (onward p (p .jobs) (p .blocks) 0))
-update-read p t s u e i n says-it place few room h put put′ =
+update-read k p t s u e i n says-it place few room h put put′ =
     record {
       says =
           λ form a b.
           rw (
             says-it,
-            update-judged form (draftOf p t) Kind.Update a b,
+            update-judged form (draftOf p t) k a b n,
             length-tabulate (updatesIn t) (updateAt t),
             lt-leb 32 (updatesIn t) (omega (arith, place, few)),
+            eq-eqb n (updatesIn t) (sym place),
           )
           (drafted (p .lines + 1) (p .blocks) (p .entries)
           (λ k. record { sizes = sizes k; jobs = jobs k; words = words k; updates = updates k }));

@@ -14,7 +14,7 @@ use Rattle.spec_format.specs.declared.Sizes.{Sizes}
 use Rattle.spec_format.specs.declared.Move.{Move}
 use Rattle.spec_format.specs.declared.Entry.{Entry}
 use Rattle.spec_format.specs.Plan.{any, blockOf, blocksWritten}
-use Rattle.spec_format.specs.ParsedLines.{Directive, move, entry, ParsedLine}
+use Rattle.spec_format.specs.ParsedLines.{Directive, update, move, entry, ParsedLine}
 use Rattle.spec_format.specs.Faults.{Draft, hasFault, stands, isUnknown, lastOf}
 use Rattle.spec_format.specs.Reading.{ReadOutcome, refused, sound, after, firstOf, byRank, orElse, parsedIn, listed}
 use Rattle.read_tables.specs.PlanTable.{planPlaces, sizesIn, updatesIn, countAt, planUpTo}
@@ -114,6 +114,11 @@ pub record LineDone (form : Form) (p : Progress) (x x′ : ReadTables) (bytes : 
   pub says : readOutcome r (x′ .plan) ≡ lineOutcome form (draftOf p (x .plan)) (parsedAt p (x .plan) bytes)
   pub holds : ConsistentAfter r (x′ .plan)
   pub noted : NotedAfter p r (x .notes) (x′ .notes) (parsedAt p (x .plan) bytes .directive)
+
+-- What the line `update n` says, by what was read of its number.
+abbrev pub updateDirective : Three → Option Directive
+updateDirective (Three.Are n b c) = some (update n)
+updateDirective Three.Bad = none
 
 -- The move that a line says with its numbers: `copy d a`, `set d k` or `add d a k`.
 abbrev pub moveFrom : MoveKind → ℕ → ℕ → ℕ → Move

@@ -1,19 +1,14 @@
-// The lines `update`, `copy`, `set` and `add`.
+// The lines `update n`, `copy d a`, `set d k` and `add d a k`.
 ghost use mathlib.Core.Path.{_≡_};
 ghost use mathlib.Core.List.{List};
-ghost use Prim.Native.Nat.{ℕ, _≤_, _<_, _+_};
-ghost use lib.ListN.{length};
-ghost use Rattle.spec_text.specs.Lines.{numbers};
-ghost use Rattle.read_fields.specs.FieldPlaces.{fieldsAt};
+ghost use Prim.Native.Nat.{ℕ, _<_};
 ghost use Rattle.spec_format.specs.declared.Kind.{Kind};
 ghost use Rattle.spec_format.specs.Plan.{named};
-ghost use Rattle.spec_format.specs.ParsedLines.{directiveOf};
 ghost use Rattle.spec_format.specs.Faults.{someFrom};
 ghost use Rattle.read_tables.specs.PlanTable.{updatesIn};
-ghost use Rattle.read_line_promises.specs.Promises.{readTables, Consistent, LineStep, moveFrom, moveDirective};
+ghost use Rattle.read_line_promises.specs.Promises.{readTables, Consistent, LineStep};
+ghost use Rattle.read_line_promises.specs.Promises.{updateDirective, moveFrom, moveDirective};
 use read_few_numbers::Three;
-use read_fields::Numbers;
-use read_fields::read_numbers;
 use read_line_promises::LineRead;
 use read_line_promises::MoveKind;
 use read_line_promises::Progress;
@@ -21,23 +16,25 @@ use read_tables::PLAN_PLACES;
 use spec_format::Fault;
 use spec_format::Move;
 
-// `update`.
-pub fn update_line(line: &[u8], at: usize, p: Progress, plan: &mut [u32; PLAN_PLACES]) -> LineRead
-    requires { ⌜ (at ≤ length (now line) + 1) × ((p .lines < 65536) × Consistent p (now plan)) ⌝ }
-    ensures { λ r. ⌜ ((e : List ℕ) → LineStep Kind.Update p
+// The line of an update: its number must be the next one, which is how many updates there are.
+pub fn update_line(numbers: Three, p: Progress, plan: &mut [u32; PLAN_PLACES]) -> LineRead
+    requires { ⌜ (p .lines < 65536) × Consistent p (now plan) ⌝ }
+    ensures { λ r. ⌜ ((met : Kind) (e : List ℕ) → LineStep met p
         (readTables (now (plan .entry)) e)
         (readTables (now (plan .exit)) e)
-        (directiveOf Kind.Update (numbers 0 (fieldsAt (now (line .entry)) at)))
+        (updateDirective «numbers»)
         r) ⌝ }
 {
     let number = p.lines + 1;
-    let mut n = [0u32; 1];
-    let Numbers::Read = read_numbers(line, at, &mut n[..0]) else {
+    let Three::Are(n, _, _) = numbers else {
         return LineRead::Refused(Fault::Malformed, number);
     };
     let updates = read_tables::updates(plan);
     if 32 <= updates {
         return LineRead::Refused(Fault::TooMany, number);
+    }
+    if read_tables::wide(n) != updates {
+        return LineRead::Refused(Fault::Misnumbered, number);
     }
     read_tables::put_count(plan, updates, 0);
     read_tables::put_updates(plan, (updates + 1) as u32);

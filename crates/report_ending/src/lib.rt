@@ -41,6 +41,7 @@ pub fn fault_number(fault: Fault) -> usize
         Fault::Malformed => 4,
         Fault::BadRun => 16,
         Fault::TooMany => 5,
+        Fault::Misnumbered => 17,
         Fault::BadSize => 6,
         Fault::BadJob => 7,
         Fault::SameJob => 8,

@@ -16,8 +16,9 @@ use mathlib.Core.List.{List, [], _∷_}
 use mathlib.Core.Option.{Option, none, some}
 use lib.Dec.{ltb}
 use lib.ListN.{length, take, drop}
-use borrow.Author.Tests.{eq-eqb, ne-eqb}
+use borrow.Author.Tests.{ltb-true, eq-eqb, ne-eqb}
 use Rattle.spec_text.specs.Lines.{Line, lines}
+use Rattle.spec_text.proofs.Cases.{both}
 use Rattle.spec_format.specs.declared.Fault.{Fault}
 use Rattle.spec_format.specs.declared.Form.{Form}
 use Rattle.spec_format.specs.Plan.{Plan, Listed}
@@ -49,32 +50,33 @@ all-in Fault.Misplaced = inr (inr (inl refl))
 all-in Fault.Malformed = inr (inr (inr (inl refl)))
 all-in Fault.BadRun = inr (inr (inr (inr (inl refl))))
 all-in Fault.TooMany = inr (inr (inr (inr (inr (inl refl)))))
-all-in Fault.BadSize = inr (inr (inr (inr (inr (inr (inl refl))))))
-all-in Fault.BadJob = inr (inr (inr (inr (inr (inr (inr (inl refl)))))))
-all-in Fault.SameJob = inr (inr (inr (inr (inr (inr (inr (inr (inl refl))))))))
-all-in Fault.BadWord = inr (inr (inr (inr (inr (inr (inr (inr (inr (inl refl)))))))))
-all-in Fault.TooManyBlocks = inr (inr (inr (inr (inr (inr (inr (inr (inr (inr (inl refl))))))))))
+all-in Fault.Misnumbered = inr (inr (inr (inr (inr (inr (inl refl))))))
+all-in Fault.BadSize = inr (inr (inr (inr (inr (inr (inr (inl refl)))))))
+all-in Fault.BadJob = inr (inr (inr (inr (inr (inr (inr (inr (inl refl))))))))
+all-in Fault.SameJob = inr (inr (inr (inr (inr (inr (inr (inr (inr (inl refl)))))))))
+all-in Fault.BadWord = inr (inr (inr (inr (inr (inr (inr (inr (inr (inr (inl refl))))))))))
+all-in Fault.TooManyBlocks = inr (inr (inr (inr (inr (inr (inr (inr (inr (inr (inr (inl refl)))))))))))
 
 -- A list goes through faults by their ranks, each above n and above the one before.
 abbrev Rising : ℕ → List Fault → Type 0
 Rising n [] = Unit {0}
 Rising n (f ∷ fs) = (n < rank f) × Rising (rank f) fs
 
--- All faults do, above 0.
+-- The same as a test,
+abbrev rising : ℕ → List Fault → Bool
+rising n [] = true
+rising n (f ∷ fs) = ltb n (rank f) && rising (rank f) fs
+
+-- by which it holds,
+rises : (n : ℕ) (l : List Fault) → rising n l ≡ true → Rising n l
+rises n [] e = tt
+rises n (f ∷ fs) e =
+    let tests = both (ltb n (rank f)) (rising (rank f) fs) e in
+    (ltb-true n (rank f) (tests .0), rises (rank f) fs (tests .1))
+
+-- and so of all faults, above 0.
 all-rising : Rising 0 faults
-all-rising = (
-  omega arith,
-  (
-    omega arith,
-    (
-      omega arith,
-      (
-        omega arith,
-        (omega arith, (omega arith, (omega arith, (omega arith, (omega arith, (omega arith, (omega arith, tt))))))),
-      ),
-    ),
-  ),
-)
+all-rising = rises 0 faults refl
 
 -- A fault of such a list has a rank above n.
 above : (n : ℕ) (l : List Fault) (g : Fault) → Rising n l → In g l → n < rank g

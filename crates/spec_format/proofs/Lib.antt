@@ -1,9 +1,11 @@
 -- What is shown of the definitions of specs/: a text is refused by its first fault, an accepted plan is sound, an
--- accepted text has few lines, and a run of steps says what its steps say.
+-- accepted text has few lines and its updates numbered, and a run of steps says what its steps say.
 pub mod Tabulated
 pub mod FirstFault
 pub mod Sound
 pub mod LineCounts
+pub mod AcceptedTexts
+pub mod UpdateNumbers
 pub mod RunIsSteps
 pub mod RunIsStepsExamples
 pub mod Examples

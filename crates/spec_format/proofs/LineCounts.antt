@@ -71,7 +71,7 @@ listed-low n m none es h low i = low i
 listed-low n m (some (plan s)) es h low i = low i
 listed-low n m (some (job j)) es h low i = low i
 listed-low n m (some (block ws)) es h low i = low i
-listed-low n m (some update) es h low i = low i
+listed-low n m (some (update k)) es h low i = low i
 listed-low n m (some (move k)) es h low i = low i
 listed-low n m (some (entry e k)) es h low i = run-low n m k e es h low i
 

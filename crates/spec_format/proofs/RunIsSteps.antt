@@ -35,10 +35,11 @@ use Rattle.spec_format.specs.ParsedLines.{stepNumbers, directive, Parsed
 use Rattle.spec_format.specs.Faults.{Draft, laidOut, lacksJobs, lacksBlocks, takesEntries, stands}
 use Rattle.spec_format.specs.Faults.{within, longestRun, mostEntries, oneTooMany, hasFault}
 use Rattle.spec_format.specs.Reading.{blank, after, parsedIn, afterLine, byRank, firstOf}
-use Rattle.spec_format.specs.Reading.{ReadOutcome, refused, sound, orElse, readLines, listed, entriesOf}
-use Rattle.spec_format.specs.Reading.{accepted, given, longest, reading}
+use Rattle.spec_format.specs.Reading.{ReadOutcome, orElse, readLines, listed, entriesOf}
+use Rattle.spec_format.specs.Reading.{accepted, longest, reading}
 use Rattle.spec_format.specs.RunIsSteps.{runLine, stepLines, wholeLines, joinedLine, inJoined, SaysSame}
 use Rattle.spec_format.proofs.FirstFault.{accepted-faultless}
+use Rattle.spec_format.proofs.AcceptedTexts.{planRead, planOf, accepted-says, says-accepted}
 
 -- A line feed alone is a line without bytes.
 abbrev emptyLine : Line
@@ -88,15 +89,6 @@ whole-append (b ∷ c ∷ s) t e =
     go true = refl
     go false = rw (byte-lines c s) (front-append b c (eqb c 10) (lines s) (lines t))
 
--- The plan of an outcome that is no refusal.
-abbrev planRead : ReadOutcome → Option Plan
-planRead (refused f n) = none
-planRead (sound d) = some (d .plan)
-
--- The plan that lines give after a draft, where no line has a fault.
-abbrev planOf : Form → Draft → List Line → Option Plan
-planOf form d ls = planRead (readLines form d ls)
-
 -- A line with or without a fault, in front of lines that give the same plan.
 or-plan :
     (x : Option Fault) (m n : ℕ) (one other : ReadOutcome) → planRead one ≡ planRead other
@@ -135,7 +127,7 @@ same-many d m n none = refl
 same-many d m n (some (plan s)) = refl
 same-many d m n (some (job j)) = refl
 same-many d m n (some (block ws)) = refl
-same-many d m n (some update) = refl
+same-many d m n (some (update k)) = refl
 same-many d m n (some (move k)) = refl
 same-many d m n (some (entry e k)) = refl
 
@@ -304,7 +296,7 @@ module _ (at n : ℕ) where
   listed-joined k (some (plan s)) = refl
   listed-joined k (some (job j)) = refl
   listed-joined k (some (block ws)) = refl
-  listed-joined k (some update) = refl
+  listed-joined k (some (update i)) = refl
   listed-joined k (some (move i)) = refl
   listed-joined k (some (entry e m)) = run-joined e k m
 
@@ -435,53 +427,6 @@ texts-alike form before behind card n whole card-fits fits some-step =
     (lines-alike form (lines before) (lines behind) (stepLine (card ∷ n ∷ [])) (stepLine (card ∷ []))
     (record { kind = 1; first = card; second = 0 }) n some-step
     (step-parsed (card ∷ n ∷ []) (card-fits, (fits, tt)) refl) (step-parsed (card ∷ []) (card-fits, tt) refl))
-
--- What an accepted text says, by its lines.
-record Says (form : Form) (text : List ℕ) (p : Plan) (es : List Listed) (k : ℕ) : Type 0 where
-  short : length text ≤ longest
-  plan-is : planOf form blank (lines text) ≡ some p
-  entries-are : es ≡ entriesOf (p .sizes .words) 1 (lines text)
-  count-is : k ≡ length (lines text)
-
--- Lines that are accepted give the plan, their entries and their count.
-given-says :
-    (ls : List Line) (o : ReadOutcome) (p : Plan) (es : List Listed) (k : ℕ) → given ls o ≡ accepted p es k
-    → (planRead o ≡ some p) × (es ≡ entriesOf (p .sizes .words) 1 ls) × (k ≡ length ls)
-given-says ls (refused f n) p es k e = (cc, cc, cc)
-given-says ls (sound d) p es k e = (cc, cc, cc)
-
--- Lines that give a plan are accepted with it, their entries and their count.
-plan-given :
-    (ls : List Line) (o : ReadOutcome) (p : Plan) → planRead o ≡ some p
-    → given ls o ≡ accepted p (entriesOf (p .sizes .words) 1 ls) (length ls)
-plan-given ls (refused f n) p e = cc
-plan-given ls (sound d) p e = cc
-
--- An accepted text says what it is accepted with,
-accepted-says :
-    (form : Form) (text : List ℕ) (p : Plan) (es : List Listed) (k : ℕ) → reading form text ≡ accepted p es k
-    → Says form text p es k
-unfolding reading
-accepted-says form text p es k e =
-    by-test (ltb longest (length text))
-    (λ t. let clash = rw t at e in absurd (let z : _≡_ {A = ℕ} 0 1 = cc in omega arith))
-    (λ t.
-    let says = given-says (lines text) (readLines form blank (lines text)) p es k (rw t at e) in
-    record {
-      short = ltb-false longest (length text) t;
-      plan-is = says .0;
-      entries-are = says .1;
-      count-is = says .2;
-    })
-
--- and it is accepted with what it says.
-says-accepted :
-    (form : Form) (text : List ℕ) (p : Plan) (es : List Listed) (k : ℕ) → Says form text p es k
-    → reading form text ≡ accepted p es k
-unfolding reading
-says-accepted form text p es k says =
-    rw (le-ltb longest (length text) (says .short), says .entries-are, says .count-is)
-    (plan-given (lines text) (readLines form blank (lines text)) p (says .plan-is))
 
 -- The steps of a text that is not too long are not too many for a number.
 few-steps :

@@ -21,7 +21,7 @@ use Rattle.spec_format.proofs.RunIsSteps.{run-is-steps}
 
 -- T up to its call.
 abbrev upToCall : List ℕ
-upToCall = bytes "plan\t1\t1\t1\t1\t1\njob\t0\t0\nblock\t5\nupdate\nadd\t0\t0\t2\ncall\t0\t0\n"
+upToCall = bytes "plan\t1\t1\t1\t1\t1\njob\t0\t0\nblock\t5\nupdate\t0\nadd\t0\t0\t2\ncall\t0\t0\n"
 
 -- The plan of T.
 abbrev planOfT : Plan

@@ -62,7 +62,7 @@ none-passes test (x ∷ xs) other e (suc k) h =
     none-passes test xs other (neither (test x) (any test xs) e .1) k (omega arith)
 
 -- One more update without moves changes the moves of none.
-one-empty : (us : List (List Move)) (u : ℕ) → getD (us ++ ([] ∷ [])) u [] ≡ getD us u []
+pub one-empty : (us : List (List Move)) (u : ℕ) → getD (us ++ ([] ∷ [])) u [] ≡ getD us u []
 one-empty [] zero = refl
 one-empty [] (suc u) = refl
 one-empty (v ∷ us) zero = refl
@@ -85,7 +85,7 @@ each-added P m (v ∷ w ∷ us) each last zero = each zero
 each-added P m (v ∷ w ∷ us) each last (suc u) = each-added P m (w ∷ us) (λ n. each (suc n)) last u
 
 -- A move more is no update more.
-as-many : (m : Move) (us : List (List Move)) → length (addToLast m us) ≡ length us
+pub as-many : (m : Move) (us : List (List Move)) → length (addToLast m us) ≡ length us
 as-many m [] = refl
 as-many m (v ∷ []) = refl
 as-many m (v ∷ w ∷ us) = omega (arith, as-many m (w ∷ us))
@@ -307,11 +307,11 @@ module _ (d : Draft) (safe : SoundSoFar d) where
         few-entries = safe .few-entries;
       }
 
-  -- An update that may stand and is not one too many.
+  -- An update that may stand and is not one too many, whatever its number.
   update-kept :
-      (laidOut d && eqb (d .entries) 0) ≡ true → leb 32 (length (d .plan .updates)) ≡ false
-      → SoundSoFar (after d (some update))
-  update-kept stands few =
+      (n : ℕ) → (laidOut d && eqb (d .entries) 0) ≡ true → leb 32 (length (d .plan .updates)) ≡ false
+      → SoundSoFar (after d (some (update n)))
+  update-kept n stands few =
       let begun : 0 < d .lines = laid-out d (both (laidOut d) (eqb (d .entries) 0) stands .0) .0 in
       let room : length (d .plan .updates) < 32 = leb-false 32 (length (d .plan .updates)) few in
       let more : length (d .plan .updates ++ ([] ∷ [])) ≡ length (d .plan .updates) + 1
@@ -409,7 +409,7 @@ kept form d ended Kind.Job fs (some ns) safe size clear =
 kept form d ended Kind.Block fs (some ns) safe size clear =
     block-kept d safe ns size (not-false _ (clear Fault.Misplaced))
 kept form d ended Kind.Update fs (some ns) safe size clear =
-    update-kept d safe (not-false _ (clear Fault.Misplaced)) (clear Fault.TooMany)
+    update-kept d safe (getD ns 0 0) (not-false _ (clear Fault.Misplaced)) (clear Fault.TooMany)
 kept form d ended Kind.Copy fs (some ns) safe size clear =
     move-kept d safe _ (not-false _ (clear Fault.Misplaced)) (clear Fault.TooMany) (clear Fault.BadWord)
     (clear Fault.TooManyBlocks)
@@ -444,37 +444,44 @@ line-kept :
 unfolding parsedOf
 line-kept form d l safe clear = fields-kept form d (l .ended) (fields (l .bytes)) safe clear
 
--- A block is no entry.
-block-listed : (n : ℕ) (o : Option (List ℕ)) → listed n (directiveOf Kind.Block o) ≡ []
-block-listed n none = refl
-block-listed n (some ns) = refl
+-- What is read off a directive that does not tell a block from a line that cannot be read does not depend on how many
+-- words a block has.
+module _ {A : Type 0} (of : Option Directive → A) (silent : (ws : List ℕ) → of (some (block ws)) ≡ of none) where
+  -- Of a block's line,
+  block-same : (o : Option (List ℕ)) → of (directiveOf Kind.Block o) ≡ of none
+  block-same none = refl
+  block-same (some ns) = silent ns
 
--- The entries of a line of some kind do not depend on how many words a block has.
-kind-listed :
-    (s t n : ℕ) (k : Kind) (fs : List (List ℕ))
-    → listed n (directiveOf k (numbersFor s k fs)) ≡ listed n (directiveOf k (numbersFor t k fs))
-kind-listed s t n Kind.Plan fs = refl
-kind-listed s t n Kind.Job fs = refl
-kind-listed s t n Kind.Block fs = block-listed n (numbers s fs) ∙ sym (block-listed n (numbers t fs))
-kind-listed s t n Kind.Update fs = refl
-kind-listed s t n Kind.Copy fs = refl
-kind-listed s t n Kind.Set fs = refl
-kind-listed s t n Kind.Add fs = refl
-kind-listed s t n Kind.Call fs = refl
-kind-listed s t n Kind.Step fs = refl
-kind-listed s t n Kind.Unknown fs = refl
+  -- of a line of some kind,
+  kind-same :
+      (s t : ℕ) (k : Kind) (fs : List (List ℕ))
+      → of (directiveOf k (numbersFor s k fs)) ≡ of (directiveOf k (numbersFor t k fs))
+  kind-same s t Kind.Plan fs = refl
+  kind-same s t Kind.Job fs = refl
+  kind-same s t Kind.Block fs = block-same (numbers s fs) ∙ sym (block-same (numbers t fs))
+  kind-same s t Kind.Update fs = refl
+  kind-same s t Kind.Copy fs = refl
+  kind-same s t Kind.Set fs = refl
+  kind-same s t Kind.Add fs = refl
+  kind-same s t Kind.Call fs = refl
+  kind-same s t Kind.Step fs = refl
+  kind-same s t Kind.Unknown fs = refl
 
--- The same of a line's fields.
-fields-listed :
-    (s t n : ℕ) (ended : Bool) (fs : List (List ℕ))
-    → listed n (parsedFrom s ended fs .directive) ≡ listed n (parsedFrom t ended fs .directive)
-fields-listed s t n ended [] = refl
-fields-listed s t n ended (f ∷ fs) = kind-listed s t n (kindOf f) fs
+  -- of a line's fields,
+  fields-same :
+      (s t : ℕ) (ended : Bool) (fs : List (List ℕ))
+      → of (parsedFrom s ended fs .directive) ≡ of (parsedFrom t ended fs .directive)
+  fields-same s t ended [] = refl
+  fields-same s t ended (f ∷ fs) = kind-same s t (kindOf f) fs
 
--- The same of a line.
+  -- and of a line.
+  pub line-same : (s t : ℕ) (l : Line) → of (parsedOf s l .directive) ≡ of (parsedOf t l .directive)
+  unfolding parsedOf
+  line-same s t l = fields-same s t (l .ended) (fields (l .bytes))
+
+-- So the entries of a line do not.
 pub line-listed : (s t n : ℕ) (l : Line) → listed n (parsedOf s l .directive) ≡ listed n (parsedOf t l .directive)
-unfolding parsedOf
-line-listed s t n l = fields-listed s t n (l .ended) (fields (l .bytes))
+line-listed s t n l = line-same (listed n) (λ ws. refl) s t l
 
 -- An entry in line n.
 abbrev listedOnce : Entry → ℕ → Listed
@@ -486,7 +493,7 @@ counted d n none = omega arith
 counted d n (some (plan s)) = omega arith
 counted d n (some (job j)) = omega arith
 counted d n (some (block ws)) = omega arith
-counted d n (some update) = omega arith
+counted d n (some (update k)) = omega arith
 counted d n (some (move m)) = omega arith
 counted d n (some (entry e k)) = omega (arith, length-replicate k (listedOnce e n))
 

@@ -29,9 +29,11 @@ numberOf Fault.SameJob = 8
 numberOf Fault.BadWord = 9
 numberOf Fault.TooManyBlocks = 10
 numberOf Fault.BadRun = 16
+numberOf Fault.Misnumbered = 17
 
 -- The order of judgement in a line: the fault of the lowest rank counts. It is that of the numbers, but for "16 ..,
--- judged after 4 and before 5". The ranks leave room for faults that are judged between these.
+-- judged after 4 and before 5" and "17 .., judged after 5 and before 6". The ranks leave room for faults that are judged
+-- between these.
 abbrev pub rank : Fault → ℕ
 rank Fault.TooLong = 10
 rank Fault.Unknown = 20
@@ -39,6 +41,7 @@ rank Fault.Misplaced = 30
 rank Fault.Malformed = 40
 rank Fault.BadRun = 45
 rank Fault.TooMany = 50
+rank Fault.Misnumbered = 55
 rank Fault.BadSize = 60
 rank Fault.BadJob = 70
 rank Fault.SameJob = 80
@@ -71,7 +74,7 @@ takesEntries Form.Schedule = true
 takesEntries Form.PlanAlone = false
 
 -- "In this order: `plan P N B S C`; N lines `job card priority`; B lines `block` with S opening words; any updates,
--- each a line `update` followed by moves ..; then any entries": whether a kind can stand here.
+-- each a line .. followed by moves ..; then any entries": whether a kind can stand here.
 abbrev pub stands : Form → Draft → Kind → Bool
 stands form d Kind.Plan = eqb (d .lines) 0
 stands form d Kind.Job = lacksJobs d
@@ -129,7 +132,7 @@ ofPlan f none = false
 ofPlan f (some (plan s)) = f s
 ofPlan f (some (job j)) = false
 ofPlan f (some (block ws)) = false
-ofPlan f (some update) = false
+ofPlan f (some (update n)) = false
 ofPlan f (some (move m)) = false
 ofPlan f (some (entry e n)) = false
 
@@ -139,7 +142,7 @@ ofJob f none = false
 ofJob f (some (plan s)) = false
 ofJob f (some (job j)) = f j
 ofJob f (some (block ws)) = false
-ofJob f (some update) = false
+ofJob f (some (update n)) = false
 ofJob f (some (move m)) = false
 ofJob f (some (entry e n)) = false
 
@@ -149,9 +152,19 @@ ofMove f none = false
 ofMove f (some (plan s)) = false
 ofMove f (some (job j)) = false
 ofMove f (some (block ws)) = false
-ofMove f (some update) = false
+ofMove f (some (update n)) = false
 ofMove f (some (move m)) = f m
 ofMove f (some (entry e n)) = false
+
+-- The same of the number of an update.
+abbrev pub ofUpdate : (ℕ → Bool) → Option Directive → Bool
+ofUpdate f none = false
+ofUpdate f (some (plan s)) = false
+ofUpdate f (some (job j)) = false
+ofUpdate f (some (block ws)) = false
+ofUpdate f (some (update n)) = f n
+ofUpdate f (some (move m)) = false
+ofUpdate f (some (entry e n)) = false
 
 -- The same of how many times an entry comes.
 abbrev pub ofRun : (ℕ → Bool) → Option Directive → Bool
@@ -159,7 +172,7 @@ ofRun f none = false
 ofRun f (some (plan s)) = false
 ofRun f (some (job j)) = false
 ofRun f (some (block ws)) = false
-ofRun f (some update) = false
+ofRun f (some (update n)) = false
 ofRun f (some (move m)) = false
 ofRun f (some (entry e n)) = f n
 
@@ -182,7 +195,7 @@ oneTooMany d none = false
 oneTooMany d (some (plan s)) = false
 oneTooMany d (some (job j)) = false
 oneTooMany d (some (block ws)) = false
-oneTooMany d (some update) = leb 32 (length (d .plan .updates))
+oneTooMany d (some (update n)) = leb 32 (length (d .plan .updates))
 oneTooMany d (some (move m)) = leb 16 (length (lastOf (d .plan .updates)))
 oneTooMany d (some (entry e n)) = ltb mostEntries (d .entries + n)
 
@@ -200,6 +213,8 @@ hasFault form d r Fault.Malformed = unreadable (r .directive)
 hasFault form d r Fault.BadRun = ofRun (λ n. not (within 1 longestRun n)) (r .directive)
 -- 5: 33rd update, 17th move, 4,001st entry.
 hasFault form d r Fault.TooMany = oneTooMany d (r .directive)
+-- 17: n is not the next number from 0, which is the count of updates so far.
+hasFault form d r Fault.Misnumbered = ofUpdate (λ n. not (eqb n (length (d .plan .updates)))) (r .directive)
 -- 6: P, N, B, S or C outside its range.
 hasFault form d r Fault.BadSize = ofPlan (λ s. not (inRange s)) (r .directive)
 -- 7: job's card not below P, or priority over 255.

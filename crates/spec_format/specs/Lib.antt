@@ -6,4 +6,5 @@ pub mod Faults
 pub mod Reading
 pub mod FirstFault
 pub mod RunIsSteps
+pub mod UpdateNumbers
 pub mod Sound

@@ -12,13 +12,13 @@ use Rattle.spec_format.specs.declared.Move.{Move}
 use Rattle.spec_format.specs.declared.Entry.{Entry}
 use Rattle.spec_format.specs.Kinds.{kindOf}
 
--- What a line of a known kind says. An entry comes with the number of times that it stands there: a run of n steps is
--- the entry `step card` n times over, every other entry is there once.
+-- What a line of a known kind says; of an update, its number. An entry comes with the number of times that it stands
+-- there: a run of n steps is the entry `step card` n times over, every other entry is there once.
 pub data Directive : Type 0 where
   plan : Sizes → Directive
   job : Job → Directive
   block : List ℕ → Directive
-  update : Directive
+  update : ℕ → Directive
   move : Move → Directive
   entry : Entry → ℕ → Directive
 
@@ -30,12 +30,12 @@ stepNumbers (f ∷ []) = 1
 stepNumbers (f ∷ g ∷ fs) = 2
 
 -- How many numbers a kind has behind its first field: `plan P N B S C`, `job card priority`, `block` with s words,
--- `update`, `copy d a`, `set d k`, `add d a k`, `call job update`, `step card` or `step card n`.
+-- `update n`, `copy d a`, `set d k`, `add d a k`, `call job update`, `step card` or `step card n`.
 abbrev pub numberCount : ℕ → Kind → List (List ℕ) → ℕ
 numberCount s Kind.Plan fs = 5
 numberCount s Kind.Job fs = 2
 numberCount s Kind.Block fs = s
-numberCount s Kind.Update fs = 0
+numberCount s Kind.Update fs = 1
 numberCount s Kind.Copy fs = 2
 numberCount s Kind.Set fs = 2
 numberCount s Kind.Add fs = 3
@@ -52,7 +52,7 @@ directive Kind.Plan ns =
     { cards = getD ns 0 0; jobs = getD ns 1 0; blocks = getD ns 2 0; words = getD ns 3 0; copies = getD ns 4 0 }))
 directive Kind.Job ns = some (job (record { card = getD ns 0 0; priority = getD ns 1 0 }))
 directive Kind.Block ns = some (block ns)
-directive Kind.Update ns = some update
+directive Kind.Update ns = some (update (getD ns 0 0))
 directive Kind.Copy ns = some (move (Move.Copy (getD ns 0 0) (getD ns 1 0)))
 directive Kind.Set ns = some (move (Move.Set (getD ns 0 0) (getD ns 1 0)))
 directive Kind.Add ns = some (move (Move.Add (getD ns 0 0) (getD ns 1 0) (getD ns 2 0)))

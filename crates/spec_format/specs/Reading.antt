@@ -43,7 +43,7 @@ planAfter p (plan s) = record { sizes = s; jobs = p .jobs; words = p .words; upd
 planAfter p (job j) =
     record { sizes = p .sizes; jobs = p .jobs ++ (j ∷ []); words = p .words; updates = p .updates }
 planAfter p (block ws) = record { sizes = p .sizes; jobs = p .jobs; words = p .words ++ ws; updates = p .updates }
-planAfter p update =
+planAfter p (update n) =
     record { sizes = p .sizes; jobs = p .jobs; words = p .words; updates = p .updates ++ ([] ∷ []) }
 planAfter p (move m) =
     record { sizes = p .sizes; jobs = p .jobs; words = p .words; updates = addToLast m (p .updates) }
@@ -54,7 +54,7 @@ abbrev pub blocksAfter : ℕ → Directive → ℕ
 blocksAfter n (plan s) = n
 blocksAfter n (job j) = n
 blocksAfter n (block ws) = n + 1
-blocksAfter n update = n
+blocksAfter n (update k) = n
 blocksAfter n (move m) = n
 blocksAfter n (entry e k) = n
 
@@ -63,7 +63,7 @@ abbrev pub entriesAfter : ℕ → Directive → ℕ
 entriesAfter n (plan s) = n
 entriesAfter n (job j) = n
 entriesAfter n (block ws) = n
-entriesAfter n update = n
+entriesAfter n (update k) = n
 entriesAfter n (move m) = n
 entriesAfter n (entry e k) = n + k
 
@@ -94,6 +94,7 @@ byRank =
     ∷ Fault.Malformed
     ∷ Fault.BadRun
     ∷ Fault.TooMany
+    ∷ Fault.Misnumbered
     ∷ Fault.BadSize
     ∷ Fault.BadJob
     ∷ Fault.SameJob
@@ -130,7 +131,7 @@ listed n none = []
 listed n (some (plan s)) = []
 listed n (some (job j)) = []
 listed n (some (block ws)) = []
-listed n (some update) = []
+listed n (some (update k)) = []
 listed n (some (move m)) = []
 listed n (some (entry e k)) = replicate k (record { entry = e; line = n })
 

@@ -36,7 +36,7 @@ planT =
 
 -- It is accepted.
 pub accepted-T :
-    reading Form.PlanAlone (bytes "plan\t1\t1\t1\t1\t1\njob\t0\t0\nblock\t5\nupdate\nadd\t0\t0\t2\n")
+    reading Form.PlanAlone (bytes "plan\t1\t1\t1\t1\t1\njob\t0\t0\nblock\t5\nupdate\t0\nadd\t0\t0\t2\n")
     ≡ accepted planT [] 5
 unfolding reading lines fields number kindOf parsedOf blocksWritten
 accepted-T = refl
@@ -64,7 +64,7 @@ threeCards =
 pub accepted-three :
     reading Form.PlanAlone
     (bytes "plan\t3\t4\t2\t2\t2\njob\t0\t1\njob\t1\t1\njob\t2\t0\njob\t2\t255\nblock\t5\t6\nblock\t7\t8\n"
-    ++ bytes "update\ncopy\t0\t3\nset\t2\t9\nupdate\nadd\t1\t1\t4\n")
+    ++ bytes "update\t0\ncopy\t0\t3\nset\t2\t9\nupdate\t1\nadd\t1\t1\t4\n")
     ≡ accepted threeCards [] 12
 unfolding reading lines fields number kindOf parsedOf blocksWritten
 accepted-three = refl

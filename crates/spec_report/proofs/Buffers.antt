@@ -18,6 +18,7 @@ use Rattle.spec_format.specs.Plan.{blocksWritten}
 use Rattle.spec_format.specs.Kinds.{kindOf}
 use Rattle.spec_format.specs.ParsedLines.{parsedOf}
 use Rattle.spec_format.specs.Reading.{reading}
+use Rattle.spec_format.proofs.Examples.{updates}
 use Rattle.spec_machine.specs.Steps.{sameVersion, stage, item}
 use Rattle.spec_machine.specs.Machine.{openingOf, stored, carriedOut, itemOf}
 use Rattle.spec_machine.specs.Entries.{judge, acted}
@@ -35,7 +36,7 @@ use Rattle.spec_report.specs.Outcomes.{
   handed,
   left,
 }
-use Rattle.spec_report.proofs.Texts.{times, run, callAndRun, oneJob, update, twoBlocks}
+use Rattle.spec_report.proofs.Texts.{run, callAndRun, oneJob, update, twoBlocks}
 
 -- A report that is handed back fits, by a test on its length.
 within : (b : Bool) (report buffer : List ℕ) → fits report buffer ≡ b → length (cond b report []) ≤ length buffer
@@ -111,18 +112,19 @@ rows =
       handed = "block\t5\nend\t0\t3\n";
       left = "block\t5\nend\t0\t3\n";
     }
-    -- 1 to 10 and 16: no report
+    -- 1 to 10, 16 and 17: no report
     ∷ untouched (runText (replicate 65537 120)) 1 0
     ∷ untouched (runText (oneJob 1 5 (bytes "x\n"))) 2 4
     ∷ untouched (runText []) 3 1
     ∷ untouched (runText (oneJob 1 5 (bytes "call\t0\n"))) 4 4
-    ∷ untouched (runText (oneJob 1 5 (times 33 (bytes "update\n")))) 5 36
+    ∷ untouched (runText (oneJob 1 5 (updates 33))) 5 36
     ∷ untouched (runText (oneJob 9 5 [])) 6 1
     ∷ untouched (runText (bytes "plan\t1\t1\t1\t1\t1\njob\t1\t0\n")) 7 2
     ∷ untouched (runText (bytes "plan\t1\t2\t1\t1\t1\njob\t0\t0\njob\t0\t0\n")) 8 3
     ∷ untouched (runText (oneJob 1 5 (update "set\t1\t0\n" []))) 9 5
     ∷ untouched (runText (twoBlocks (update "set\t0\t1\nset\t1\t1\n" []))) 10 7
     ∷ untouched (runText (oneJob 1 5 (run 0))) 16 4
+    ∷ untouched (runText (oneJob 1 5 (bytes "update\t1\n"))) 17 4
     -- 11 to 14: the report of the state before the entry
     ∷ record {
       outcome = runText (oneJob 1 5 (bytes "call\t1\t0\n"));
@@ -186,11 +188,22 @@ rows =
       handed = "";
       left = "";
     }
+    ∷ record {
+      outcome = runText (oneJob 1 5 (bytes "update\t1\n"));
+      room = 0;
+      number = 17;
+      line = 4;
+      entry = 0;
+      handed = "";
+      left = "";
+    }
     -- records: 5 and 3 by place, an entry line in the plan's text, a refused entry by place, acceptance by their count
     ∷ untouched (runSchedule (oneJob 1 5 []) (replicate 4001 (entry 2 0 0))) 5 4001
     ∷ untouched (runSchedule (oneJob 1 5 []) (entry 1 0 0 ∷ entry 2 0 0 ∷ [])) 3 2
     ∷ untouched (runSchedule (oneJob 1 5 (bytes "step\t0\n")) (entry 2 0 0 ∷ [])) 3 4
     ∷ untouched (runSchedule (oneJob 1 5 (run 0)) (entry 2 0 0 ∷ [])) 3 4
+    -- a wrong update number in the plan's text, before the records are looked at
+    ∷ untouched (runSchedule (oneJob 1 5 (bytes "update\t1\n")) (entry 2 0 0 ∷ [])) 17 4
     ∷ record {
       outcome = runSchedule (oneJob 1 5 (update "" [])) (entry 0 0 0 ∷ entry 1 0 7 ∷ entry 1 1 7 ∷ []);
       room = 27;

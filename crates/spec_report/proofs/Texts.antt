@@ -1,15 +1,10 @@
 -- Texts of plans and schedules with their sizes as parameters, for the computed runs. Assumes nothing.
-use Prim.Native.Nat.{ℕ, zero, suc}
+use Prim.Native.Nat.{ℕ}
 use Prim.Native.String.{String}
-use mathlib.Core.List.{List, [], _++_}
+use mathlib.Core.List.{List, _++_}
 use Rattle.spec_text.specs.Bytes.{bytes}
 use Rattle.spec_text.specs.Decimal.{decimal}
 use Rattle.spec_format.specs.RunIsSteps.{runLine, stepLines}
-
--- A text n times.
-abbrev pub times : ℕ → List ℕ → List ℕ
-times zero s = []
-times (suc n) s = s ++ times n s
 
 -- n times `step 0`.
 abbrev pub steps : ℕ → List ℕ
@@ -34,9 +29,9 @@ oneJob cards word more =
     ++ (decimal cards
     ++ (bytes "\t1\t1\t1\t1\njob\t0\t0\nblock\t" ++ (decimal word ++ (bytes "\n" ++ more))))
 
--- An update with these moves; then more lines.
+-- Update 0 with these moves; then more lines.
 abbrev pub update : String → List ℕ → List ℕ
-update moves more = bytes "update\n" ++ (bytes moves ++ more)
+update moves more = bytes "update\t0\n" ++ (bytes moves ++ more)
 
 -- The lines of T up to its update; then more lines.
 abbrev pub upToUpdate : List ℕ → List ℕ

@@ -43,8 +43,8 @@ runOutcome plan es line count =
 abbrev pub lineIn : List Listed → ℕ → ℕ
 lineIn ls i = getD (map (λ (l : Listed). l .line) ls) i 0
 
--- "The whole text is checked for 1 to 10 before any entry runs; the first of 11 to 14 stops the run." 16, which "has
--- the effect of 2", is checked with 1 to 10.
+-- "The whole text is checked for 1 to 10 before any entry runs; the first of 11 to 14 stops the run." 16 and 17,
+-- which have "the effect of 2", are checked with 1 to 10.
 abbrev pub ofReading : Reading → RunOutcome
 ofReading (refusal f n) = refused f n
 ofReading (accepted plan ls n) = runOutcome plan (map (λ (l : Listed). l .entry) ls) (lineIn ls) n
@@ -98,7 +98,7 @@ handed (reported e bytes) buffer = cond (fits bytes buffer) bytes []
 unfoldable pub left : RunOutcome → List ℕ → List ℕ
 left o buffer = inFirstPlaces (handed o buffer) buffer
 
--- "A program .. prints the report, or `end number line` alone for 1 to 10", and for 16.
+-- "A program .. prints the report, or `end number line` alone for 1 to 10", and for 16 and 17.
 unfoldable pub printed : RunOutcome → List ℕ
 printed (refused f n) = reportEnd (End.Faulty f n)
 printed (reported e bytes) = bytes

@@ -19,7 +19,7 @@ use Rattle.spec_machine.specs.History.{commitsIn, Run}
 
 -- No number of the table is larger.
 abbrev pub largestNumber : ℕ
-largestNumber = 16
+largestNumber = 17
 
 -- The number that an end has in the table: "Acceptance is 0."
 abbrev pub endNumber : End → ℕ

@@ -78,6 +78,7 @@ fault-number Fault.Misplaced = omega arith
 fault-number Fault.Malformed = omega arith
 fault-number Fault.BadRun = omega arith
 fault-number Fault.TooMany = omega arith
+fault-number Fault.Misnumbered = omega arith
 fault-number Fault.BadSize = omega arith
 fault-number Fault.BadJob = omega arith
 fault-number Fault.SameJob = omega arith

@@ -207,12 +207,12 @@ fn run_file(name: &[u8], bytes: &mut [u8], room: &mut [u8; OUTPUT]) {
 // Runs each pack. It is lent the room as arrays, whose lengths their types give: to count the zeros of so many would
 // take the prover too much room.
 fn run_files(bytes: &mut [u8; ROOM], room: &mut [u8; OUTPUT]) {
-    run_file(b"01-runs-of-steps.pack", bytes, room);
+    run_file(b"02-update-numbers.pack", bytes, room);
     run_file(b"wrong.pack", bytes, room);
 }
 
-// Runs the packs. The cases of the last one are wrong on purpose: one in its answer, one in a line of its report, and
-// one in its run of steps, which its report takes one step short.
+// Runs the packs. The cases of the last one are wrong on purpose: one in its answer, one in a line of its report, one
+// in its run of steps, which its report takes one step short, and one in the number of its update, which it has pass.
 fn main() {
     let mut bytes = [0u8; ROOM];
     let mut room = [0u8; OUTPUT];

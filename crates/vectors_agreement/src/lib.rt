@@ -38,23 +38,23 @@ pub fn read_ending(line: &[u8]) -> Ending {
     })
 }
 
-// What a case says of the check of its text: an output that ends in n from 1 to 10, or in 16, says that it is refused
-// by n, and every other that it is accepted.
+// What a case says of the check of its text: an output that ends in 0, or in 11 to 15, which only a run meets, says
+// that it is accepted, and every other that it is refused by that number.
 fn wanted(text: &[u8], end: Answer) -> Answer {
     let accepted = Answer {
         number: 0,
         line: vectors_cases::count(text, b'\n'),
     };
-    if end.number == 16 {
-        return end;
-    }
     if end.number < 1 {
         return accepted;
     }
-    if end.number > 10 {
-        return accepted;
+    if end.number < 11 {
+        return end;
     }
-    end
+    if end.number > 15 {
+        return end;
+    }
+    accepted
 }
 
 // Writes bytes to standard output.

@@ -59,7 +59,7 @@ fn run_plan(
     report_ending::finish(buffer, plan, &cells, &stat, &store, &commits, end)
 }
 
-// A text is read into the tables, and run. The whole text is checked for 1 to 10 and 16 before any entry runs.
+// A text is read into the tables, and run. The whole text is checked for 1 to 10, 16 and 17 before any entry runs.
 fn run_read(
     text: &[u8],
     plan: &mut [u32; PLAN_PLACES],

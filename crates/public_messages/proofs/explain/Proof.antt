@@ -4,6 +4,7 @@ use Prim.Native.Nat.{_≤_, _<_}
 use native.Mathlib.Omega.{arith}
 use denote.Ref.{now}
 use lib.ListN.{length}
+use Rattle.public_messages.specs.Messages.{meanings}
 use Rattle.public_messages.proofs.Sentences.{accepted-silent, past-silent, refused-said}
 use borrow.Author.Needs.{needs}
 use Rattle.public_messages.proofs.explain.Statement.{statement}
@@ -15,7 +16,7 @@ returns c = accepted-silent _ (c .before .args .line) (c .before .args .entry) _
 returns-2 : tie.Need-returns-2
 returns-2 c =
     let a = c .before .before .args in
-    let past : 17 ≤ a .number = omega (arith, c .if2 .taken) in
+    let past : length meanings ≤ a .number = omega (arith, c .if2 .taken) in
     past-silent (a .number) (a .line) (a .entry) _ past
 
 put-refusal-requires : tie.Need-put-refusal-requires

@@ -4,56 +4,59 @@ use Rattle.public_messages.proofs.Sentences.{has-room, said}
 use Rattle.public_messages.proofs.put_meaning.Statement.{statement}
 use Rattle.public_messages.proofs.put_meaning.Tie as tie
 
-slice-aggregate-t23 : tie.Need-slice-aggregate-t23
-slice-aggregate-t23 c = search needs
+slice-aggregate-t24 : tie.Need-slice-aggregate-t24
+slice-aggregate-t24 c = search needs
 
-slice-aggregate-t25 : tie.Need-slice-aggregate-t25
-slice-aggregate-t25 c = search needs
+slice-aggregate-t26 : tie.Need-slice-aggregate-t26
+slice-aggregate-t26 c = search needs
 
-slice-aggregate-t27 : tie.Need-slice-aggregate-t27
-slice-aggregate-t27 c = search needs
+slice-aggregate-t28 : tie.Need-slice-aggregate-t28
+slice-aggregate-t28 c = search needs
 
-slice-aggregate-t29 : tie.Need-slice-aggregate-t29
-slice-aggregate-t29 c = search needs
+slice-aggregate-t30 : tie.Need-slice-aggregate-t30
+slice-aggregate-t30 c = search needs
 
-slice-aggregate-t31 : tie.Need-slice-aggregate-t31
-slice-aggregate-t31 c = search needs
+slice-aggregate-t32 : tie.Need-slice-aggregate-t32
+slice-aggregate-t32 c = search needs
 
-slice-aggregate-t33 : tie.Need-slice-aggregate-t33
-slice-aggregate-t33 c = search needs
+slice-aggregate-t34 : tie.Need-slice-aggregate-t34
+slice-aggregate-t34 c = search needs
 
-slice-aggregate-t35 : tie.Need-slice-aggregate-t35
-slice-aggregate-t35 c = search needs
+slice-aggregate-t36 : tie.Need-slice-aggregate-t36
+slice-aggregate-t36 c = search needs
 
-slice-aggregate-t37 : tie.Need-slice-aggregate-t37
-slice-aggregate-t37 c = search needs
+slice-aggregate-t38 : tie.Need-slice-aggregate-t38
+slice-aggregate-t38 c = search needs
 
-slice-aggregate-t39 : tie.Need-slice-aggregate-t39
-slice-aggregate-t39 c = search needs
+slice-aggregate-t40 : tie.Need-slice-aggregate-t40
+slice-aggregate-t40 c = search needs
 
-slice-aggregate-t41 : tie.Need-slice-aggregate-t41
-slice-aggregate-t41 c = search needs
+slice-aggregate-t42 : tie.Need-slice-aggregate-t42
+slice-aggregate-t42 c = search needs
 
-slice-aggregate-t43 : tie.Need-slice-aggregate-t43
-slice-aggregate-t43 c = search needs
+slice-aggregate-t44 : tie.Need-slice-aggregate-t44
+slice-aggregate-t44 c = search needs
 
-slice-aggregate-t45 : tie.Need-slice-aggregate-t45
-slice-aggregate-t45 c = search needs
+slice-aggregate-t46 : tie.Need-slice-aggregate-t46
+slice-aggregate-t46 c = search needs
 
-slice-aggregate-t47 : tie.Need-slice-aggregate-t47
-slice-aggregate-t47 c = search needs
+slice-aggregate-t48 : tie.Need-slice-aggregate-t48
+slice-aggregate-t48 c = search needs
 
-slice-aggregate-t49 : tie.Need-slice-aggregate-t49
-slice-aggregate-t49 c = search needs
+slice-aggregate-t50 : tie.Need-slice-aggregate-t50
+slice-aggregate-t50 c = search needs
 
-slice-aggregate-t51 : tie.Need-slice-aggregate-t51
-slice-aggregate-t51 c = search needs
+slice-aggregate-t52 : tie.Need-slice-aggregate-t52
+slice-aggregate-t52 c = search needs
 
-slice-aggregate-t53 : tie.Need-slice-aggregate-t53
-slice-aggregate-t53 c = search needs
+slice-aggregate-t54 : tie.Need-slice-aggregate-t54
+slice-aggregate-t54 c = search needs
 
-slice-aggregate-t55 : tie.Need-slice-aggregate-t55
-slice-aggregate-t55 c = search needs
+slice-aggregate-t56 : tie.Need-slice-aggregate-t56
+slice-aggregate-t56 c = search needs
+
+slice-aggregate-t58 : tie.Need-slice-aggregate-t58
+slice-aggregate-t58 c = search needs
 
 sentence-at-requires : tie.Need-sentence-at-requires
 sentence-at-requires c κs = search needs
@@ -61,7 +64,7 @@ sentence-at-requires c κs = search needs
 -- The function's arguments, from where the sentence is picked.
 abbrev start : tie.After-sentence-at → tie.Start
 start c =
-    c .before .before .before .before .before .before .before .before .before
+    c .before .before .before .before .before .before .before .before .before .before
     .before .before .before .before .before .before .before .before .before .before
 
 put-bytes-requires : tie.Need-put-bytes-requires
@@ -83,23 +86,24 @@ pub put-meaning-spec : {M : Type 1} → statement M
 put-meaning-spec =
     tie.close
     (tie.spec
-    slice-aggregate-t23
-    slice-aggregate-t25
-    slice-aggregate-t27
-    slice-aggregate-t29
-    slice-aggregate-t31
-    slice-aggregate-t33
-    slice-aggregate-t35
-    slice-aggregate-t37
-    slice-aggregate-t39
-    slice-aggregate-t41
-    slice-aggregate-t43
-    slice-aggregate-t45
-    slice-aggregate-t47
-    slice-aggregate-t49
-    slice-aggregate-t51
-    slice-aggregate-t53
-    slice-aggregate-t55
+    slice-aggregate-t24
+    slice-aggregate-t26
+    slice-aggregate-t28
+    slice-aggregate-t30
+    slice-aggregate-t32
+    slice-aggregate-t34
+    slice-aggregate-t36
+    slice-aggregate-t38
+    slice-aggregate-t40
+    slice-aggregate-t42
+    slice-aggregate-t44
+    slice-aggregate-t46
+    slice-aggregate-t48
+    slice-aggregate-t50
+    slice-aggregate-t52
+    slice-aggregate-t54
+    slice-aggregate-t56
+    slice-aggregate-t58
     sentence-at-requires
     put-bytes-requires
     same-length

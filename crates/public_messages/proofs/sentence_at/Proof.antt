@@ -17,7 +17,7 @@ array-copy-out-result c = search needs
 returns : tie.Need-returns
 returns c =
     let a = c .before .args in
-    let long : length (a .t1) ≡ 17 = search needs in
+    let long : length (a .t1) ≡ 18 = search needs in
     let inside : a .number < length (a .t1) = omega (arith, long, c .before .pre) in
     shown (a .t1) _ (a .number) inside
 

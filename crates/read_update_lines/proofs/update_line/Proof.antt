@@ -1,55 +1,86 @@
--- `update_line` starts an update without moves. Assumes nothing.
-use mathlib.Core.Path.{_≡_, sym, subst}
+-- `update_line` judges an update by the rows 5 and 17, and starts it without moves. Assumes nothing.
+use Prim.Native.Nat.{ℕ, _≤_, _<_}
+use mathlib.Core.Path.{_≡_, sym, _∙_, ap}
+use mathlib.Core.List.{List}
 use mathlib.Core.Option.{some}
-use Prim.Native.Nat.{_≤_}
-use denote.Ref.{now}
-use Rattle.spec_format.specs.declared.Kind.{Kind}
-use Rattle.spec_text.specs.Lines.{numbers}
-use Rattle.read_fields.specs.FieldPlaces.{fieldsAt}
-use Rattle.spec_format.specs.ParsedLines.{directiveOf, update}
-use Rattle.read_line_promises.proofs.LineKinds.{malformed, many-updates, update-read}
+use native.Mathlib.Omega.{arith}
+use borrow.Author.Tests.{le-leb, lt-leb, ne-eqb}
 use borrow.Author.Needs.{needs}
+use denote.Ref.{now}
+use Rattle.spec_format.specs.declared.Fault.{Fault}
+use Rattle.spec_format.specs.ParsedLines.{update}
+use Rattle.read_tables.specs.PlanTable.{updatesIn}
+use Rattle.read_line_promises.specs.Promises.{updateDirective}
+use Rattle.read_line_promises.proofs.Judged.{updateFault}
+use Rattle.read_line_promises.proofs.LineKinds.{malformed, bad-update, update-read}
 use Rattle.read_update_lines.proofs.update_line.Statement.{statement}
 use Rattle.read_update_lines.proofs.update_line.Tie as tie
 
--- What the line says, where its numbers could be read.
-says-update : (c : tie.After-enum-told) →
-    let a = c .before .before .before .before .before .before .before .args in
-    directiveOf Kind.Update (numbers 0 (fieldsAt (now (a .line)) (a .at))) ≡ some update
-says-update c = rw (← c .before .before .before .read-numbers .ensures .0, c .enum-told .given .1)
+-- It is the 33rd,
+judged-many : (updates n : ℕ) → 32 ≤ updates → updateFault updates n ≡ some Fault.TooMany
+judged-many updates n many = rw (le-leb 32 updates many)
+
+-- or has another number than the next.
+judged-other : (updates n : ℕ) → updates < 32 → ¬ (n ≡ updates) → updateFault updates n ≡ some Fault.Misnumbered
+judged-other updates n few other = rw (lt-leb 32 updates few, ne-eqb n updates other)
+
+-- The function's start, from where it is known how many updates there are.
+abbrev start : tie.After-updates → tie.Start
+start c = c .before .before .before .before .before .before
+
+-- The plan's table at the start.
+abbrev plan : tie.After-updates → List ℕ
+plan c = now (start c .args .plan)
+
+-- The number that the line says.
+abbrev theNumber : tie.After-updates → ℕ
+theNumber c = c .before .before .before .numbers .given .0 .0
+
+-- What the line says.
+says : (c : tie.After-updates) → updateDirective (start c .args .numbers) ≡ some (update (theNumber c))
+says c = ap updateDirective (c .before .before .before .numbers .given .1)
+
+-- There are fewer than 32 updates.
+few : (c : tie.Else1) → updatesIn (plan (c .before)) < 32
+few c = omega (arith, c .before .updates .ensures, c .if1 .left)
+
+-- The number is the next one.
+next : (c : tie.Else2) → theNumber (c .before .before .before) ≡ c .before .before .before .updates .result
+next c = omega (arith, c .before .wide .ensures, c .if2 .left)
 
 add-number : tie.Need-add-number
 add-number c = search needs
 
-array-borrow-prefix-n : tie.Need-array-borrow-prefix-n
-array-borrow-prefix-n c = search needs
-
-slice-aggregate-read-numbers : tie.Need-slice-aggregate-read-numbers
-slice-aggregate-read-numbers c = search needs
-
-read-numbers-requires : tie.Need-read-numbers-requires
-read-numbers-requires c κs = search needs
+enum-known-numbers : tie.Need-enum-known-numbers
+enum-known-numbers c = search needs
 
 enum-told : tie.Need-enum-told
 enum-told c = search needs
 
-enum-told-2 : tie.Need-enum-told-2
-enum-told-2 c = search needs
-
 returns : tie.Need-returns
-returns c =
-    λ e.
-    malformed Kind.Update _ _ _ _
-    (rw (← c .before .before .before .read-numbers .ensures .0, c .enum-told2 .given .1))
+returns c = λ k e. malformed k _ _ _ _ (rw (c .enum-told .given .1))
 
 updates-requires : tie.Need-updates-requires
 updates-requires c κs = search needs
 
 returns-2 : tie.Need-returns-2
 returns-2 c =
-    λ e.
-    many-updates _ _ _ _ (says-update (c .before .before .before))
-    (subst (λ n. 32 ≤ n) (c .before .updates .ensures) (c .if1 .taken))
+    λ k e.
+    let u = c .before in
+    bad-update k _ _ _ _ (theNumber u) (says u) Fault.TooMany
+    (judged-many (updatesIn (plan u)) (theNumber u) (omega (arith, u .updates .ensures, c .if1 .taken)))
+
+wide-requires : tie.Need-wide-requires
+wide-requires c κs = search needs
+
+returns-3 : tie.Need-returns-3
+returns-3 c =
+    λ k e.
+    let f = c .before .before in
+    let u = f .before in
+    bad-update k _ _ _ _ (theNumber u) (says u) Fault.Misnumbered
+    (judged-other (updatesIn (plan u)) (theNumber u) (few f)
+    (λ same. c .if2 .taken (omega (arith, c .before .wide .ensures, same, u .updates .ensures))))
 
 put-count-requires : tie.Need-put-count-requires
 put-count-requires c κs = search needs
@@ -63,15 +94,18 @@ cast-put-updates c = search needs
 put-updates-requires : tie.Need-put-updates-requires
 put-updates-requires c κs = search needs
 
-returns-3 : tie.Need-returns-3
-returns-3 c =
-    λ e.
+returns-4 : tie.Need-returns-4
+returns-4 c =
+    λ k e.
     let i = c .before .before .before .before in
-    let t = i .before .before .before in
-    let s = t .before .before .before .before .before .before .before in
-    update-read _ (now (s .args .plan)) _ _ e _ _ (says-update t) (sym (i .before .updates .ensures)) (i .if1 .left)
-    (s .pre .1 .0)
-    (s .pre .1 .1)
+    let f = i .before .before in
+    let u = f .before in
+    let s = start u in
+    update-read k _ (plan u) _ _ e _ (u .updates .result) (says u ∙ ap (λ n. some (update n)) (next i))
+    (sym (u .updates .ensures))
+    (f .if1 .left)
+    (s .pre .0)
+    (s .pre .1)
     (c .before .before .put-count .ensures)
     (c .put-updates .ensures)
 
@@ -80,16 +114,15 @@ update-line-spec =
     tie.close
     (tie.spec
     add-number
-    array-borrow-prefix-n
-    slice-aggregate-read-numbers
-    read-numbers-requires
+    enum-known-numbers
     enum-told
-    enum-told-2
     returns
     updates-requires
     returns-2
+    wide-requires
+    returns-3
     put-count-requires
     add-put-updates
     cast-put-updates
     put-updates-requires
-    returns-3)
+    returns-4)
