@@ -1,8 +1,9 @@
 /*
  * The point memory machine for C (C99 and later) and C++: check a text, run a text, run a schedule of records.
  * `rt staticlib public_point_memory` builds the library, target/staticlib/libpublic_point_memory.a; examples/link.c
- * shows how it is linked. Every function is proved to answer what the definitions of document 01 say, for all bytes,
- * records and lengths handed in; docs/TRUST.md says what that rests on.
+ * shows how it is linked. Every function is proved to answer what the definitions say that are written from document
+ * 01 and the first two requests of document 02, for all bytes, records and lengths handed in; docs/TRUST.md says what
+ * that rests on.
  *
  * What a caller must ensure:
  *
@@ -17,8 +18,8 @@
  * state is handed in, and none is kept between calls. Nothing is locked and nothing is allocated on the heap, so
  * several threads may call at once, each with a buffer of its own. A call neither keeps nor frees what it was lent.
  *
- * The numbers. Of 1 to 10 and 16 the first faulty line counts, and in it the one that is judged first: 16 is judged
- * after 4 and before 5, the others in their order. docs/MANUAL.md says how to mend each:
+ * The numbers. Of 1 to 10, 16 and 17 the first faulty line counts, and in it the one that is judged first: 16 is judged
+ * after 4 and before 5, 17 after 5 and before 6, the others in their order. docs/MANUAL.md says how to mend each:
  *
  *    0  accepted; line is the count of all lines, or of all records
  *    1  text over 65,536 bytes (line 0)
@@ -37,8 +38,9 @@
  *   14  step: no job active on the card
  *   15  report longer than the buffer (line 0)
  *   16  a run `step card n` with n not from 1 to 4,000
+ *   17  a line `update n` with n not the next number from 0
  *
- * 1 to 10 and 16 are judged before any entry runs, and leave no report. 11 to 14 stop the run; the report is of the
+ * 1 to 10, 16 and 17 are judged before any entry runs, and leave no report. 11 to 14 stop the run; the report is of the
  * state before that entry, and the line of a step in a run is the run's. 15 is decided last, and leaves the buffer
  * untouched. Lines, and places of records, count from 1.
  */
@@ -55,13 +57,13 @@ extern "C" {
 /* A buffer of so many bytes is long enough for every report: it is proved that none is longer than 75,101 bytes. */
 #define POINT_MEMORY_REPORT_ROOM 80000
 
-/* What a check answers: a number from 0 to 10, or 16, and its line. */
+/* What a check answers: a number, 0 to 10, 16 or 17, and its line. */
 typedef struct {
     size_t number;
     size_t line;
 } point_memory_answer;
 
-/* What a run answers: a number from 0 to 16, its line or the record's place, and the length of the report, which stands
+/* What a run answers: a number from 0 to 17, its line or the record's place, and the length of the report, which stands
    in the first bytes of the buffer; 0 where none is written. */
 typedef struct {
     size_t number;
@@ -81,7 +83,7 @@ typedef struct {
     uint32_t second;
 } point_memory_entry;
 
-/* Checks a text, without running its entries: 0 and the count of its lines, or 1 to 10 or 16 and the line. */
+/* Checks a text, without running its entries: 0 and the count of its lines, or 1 to 10, 16 or 17 and the line. */
 point_memory_answer point_memory_check(const uint8_t *text, size_t text_length);
 
 /* The same for a plan's text, in which an entry line is 3. */

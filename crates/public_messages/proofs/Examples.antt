@@ -41,7 +41,7 @@ rows =
       number = 17;
       line = 4;
       entry = 0;
-      said = "line 4: refused with 17: the update's number is not the next one: updates are numbered from 0 as they come\n";
+      said = "line 4: refused with 17: the update's number is not the next one, counted from 0\n";
     }
     ∷ record { number = 0; line = 39; entry = 0; said = "" }
     ∷ record { number = 18; line = 1; entry = 0; said = "" }

@@ -28,7 +28,7 @@ meanings =
     ∷ bytes "no job is active on the card"
     ∷ bytes "the report is longer than the buffer"
     ∷ bytes "a run has from 1 to 4,000 steps"
-    ∷ bytes "the update's number is not the next one: updates are numbered from 0 as they come"
+    ∷ bytes "the update's number is not the next one, counted from 0"
     ∷ []
 
 -- What a number means.

@@ -12,7 +12,7 @@ ghost use Rattle.public_messages.specs.Messages.{meanings, meaning, entr
 // Room for every line.
 pub const MESSAGE: usize = 200;
 
-// The numbers that have a sentence are those below this one.
+// How many numbers the table of sentences has, 0 included.
 const NUMBERS: usize = 18;
 
 // The sentence of a table that stands at a place.
@@ -47,7 +47,7 @@ fn put_meaning(buffer: &mut [u8], at: usize, number: usize) -> usize
             b"no job is active on the card",
             b"the report is longer than the buffer",
             b"a run has from 1 to 4,000 steps",
-            b"the update's number is not the next one: updates are numbered from 0 as they come",
+            b"the update's number is not the next one, counted from 0",
         ],
         number,
     );

@@ -1,7 +1,7 @@
 -- Texts with their verdicts, computed on the definitions: accepted and refused ones exist, and a line with several
 -- faults, and a text with faults in several lines, are answered as the table says; the single entries of a run; and
 -- what is found by an update's number. Assumes nothing.
-use Prim.Native.Nat.{ℕ, zero, suc}
+use Prim.Native.Nat.{ℕ}
 use Prim.Native.String.{String}
 use mathlib.Core.Path.{_≡_, refl}
 use mathlib.Core.Bool.{false}
@@ -10,7 +10,6 @@ use Rattle.spec_text.specs.Bytes.{bytes}
 use Rattle.spec_text.specs.Decimal.{decimal}
 use Rattle.spec_text.specs.Lines.{lines, fields}
 use Rattle.spec_text.specs.Numbers.{number}
-use Rattle.spec_text.specs.WrittenLines.{lineOf}
 use Rattle.spec_format.specs.declared.Fault.{Fault}
 use Rattle.spec_format.specs.declared.Form.{Form}
 use Rattle.spec_format.specs.declared.Verdict.{Verdict}
@@ -19,7 +18,7 @@ use Rattle.spec_format.specs.Plan.{Listed, blocksWritten}
 use Rattle.spec_format.specs.Kinds.{kindOf}
 use Rattle.spec_format.specs.ParsedLines.{parsedOf}
 use Rattle.spec_format.specs.Reading.{Reading, refusal, accepted, reading, verdictOf}
-use Rattle.spec_format.specs.UpdateNumbers.{directives, updateNumbers, movesBehind}
+use Rattle.spec_format.specs.UpdateNumbers.{updateLines, directives, updateNumbers, movesBehind}
 
 -- A text with the verdict that it must be given.
 pub record Row : Type 0 where
@@ -34,14 +33,9 @@ small more = bytes "plan\t1\t1\t1\t1\t1\njob\t0\t0\nblock\t5\n" ++ bytes more
 abbrev pub threeUpdates : List ℕ
 threeUpdates = small "update\t0\nupdate\t1\nset\t0\t7\nupdate\t2\n"
 
--- The lines of n updates without moves, numbered from 0.
-abbrev pub updates : ℕ → List ℕ
-updates zero = []
-updates (suc n) = updates n ++ lineOf (bytes "update") (n ∷ [])
-
 -- The same plan with 32 updates, and more lines behind.
 abbrev pub full : String → List ℕ
-full more = small "" ++ (updates 32 ++ bytes more)
+full more = small "" ++ (updateLines 32 ++ bytes more)
 
 -- The rows.
 abbrev pub rows : List Row

@@ -32,8 +32,8 @@ numberOf Fault.BadRun = 16
 numberOf Fault.Misnumbered = 17
 
 -- The order of judgement in a line: the fault of the lowest rank counts. It is that of the numbers, but for "16 ..,
--- judged after 4 and before 5" and "17 .., judged after 5 and before 6". The ranks leave room for faults that are judged
--- between these.
+-- judged after 4 and before 5" and "17 .., judged after 5 and before 6". The ranks leave room for faults that are
+-- judged between these.
 abbrev pub rank : Fault → ℕ
 rank Fault.TooLong = 10
 rank Fault.Unknown = 20

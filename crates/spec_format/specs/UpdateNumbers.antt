@@ -1,17 +1,24 @@
 -- "Engineers count `update` lines with a finger to know what `call 3 7` means. The line becomes `update n` with the
 -- number that was implied": what a reader of a text finds by these numbers, and that it is what the plan has.
 -- proofs/UpdateNumbers.antt shows it of every accepted text. Assumes nothing.
-use Prim.Native.Nat.{ℕ}
+use Prim.Native.Nat.{ℕ, zero, suc}
 use mathlib.Core.Path.{_≡_}
 use mathlib.Core.Bool.{Bool, false, cond}
 use mathlib.Core.List.{List, [], _∷_, _++_, map}
 use mathlib.Core.Option.{Option, none, some}
 use lib.Dec.{eqb}
 use lib.ListN.{length, getD}
+use Rattle.spec_text.specs.Bytes.{bytes}
 use Rattle.spec_text.specs.Lines.{Line, lines}
+use Rattle.spec_text.specs.WrittenLines.{lineOf}
 use Rattle.spec_format.specs.declared.Move.{Move}
 use Rattle.spec_format.specs.Plan.{Plan, tabulate}
 use Rattle.spec_format.specs.ParsedLines.{Directive, plan, job, block, update, move, entry, parsedOf}
+
+-- The lines of n updates without moves.
+abbrev pub updateLines : ℕ → List ℕ
+updateLines zero = []
+updateLines (suc n) = updateLines n ++ lineOf (bytes "update") (n ∷ [])
 
 -- What the lines of a text say, one after the other, where blocks have s words.
 abbrev pub directives : ℕ → List Line → List (Option Directive)

@@ -18,7 +18,7 @@ use Rattle.spec_format.specs.Plan.{blocksWritten}
 use Rattle.spec_format.specs.Kinds.{kindOf}
 use Rattle.spec_format.specs.ParsedLines.{parsedOf}
 use Rattle.spec_format.specs.Reading.{reading}
-use Rattle.spec_format.proofs.Examples.{updates}
+use Rattle.spec_format.specs.UpdateNumbers.{updateLines}
 use Rattle.spec_machine.specs.Steps.{sameVersion, stage, item}
 use Rattle.spec_machine.specs.Machine.{openingOf, stored, carriedOut, itemOf}
 use Rattle.spec_machine.specs.Entries.{judge, acted}
@@ -117,7 +117,7 @@ rows =
     ∷ untouched (runText (oneJob 1 5 (bytes "x\n"))) 2 4
     ∷ untouched (runText []) 3 1
     ∷ untouched (runText (oneJob 1 5 (bytes "call\t0\n"))) 4 4
-    ∷ untouched (runText (oneJob 1 5 (updates 33))) 5 36
+    ∷ untouched (runText (oneJob 1 5 (updateLines 33))) 5 36
     ∷ untouched (runText (oneJob 9 5 [])) 6 1
     ∷ untouched (runText (bytes "plan\t1\t1\t1\t1\t1\njob\t1\t0\n")) 7 2
     ∷ untouched (runText (bytes "plan\t1\t2\t1\t1\t1\njob\t0\t0\njob\t0\t0\n")) 8 3

@@ -13,7 +13,7 @@ use Rattle.spec_format.specs.Plan.{blocksWritten}
 use Rattle.spec_format.specs.Kinds.{kindOf}
 use Rattle.spec_format.specs.ParsedLines.{parsedOf}
 use Rattle.spec_format.specs.Reading.{reading}
-use Rattle.spec_format.proofs.Examples.{updates}
+use Rattle.spec_format.specs.UpdateNumbers.{updateLines}
 use Rattle.spec_machine.specs.Steps.{sameVersion, stage, item}
 use Rattle.spec_machine.specs.Machine.{openingOf, stored, carriedOut, itemOf}
 use Rattle.spec_machine.specs.Entries.{judge, acted}
@@ -104,18 +104,19 @@ rows =
     ∷ record { text = T-run 4001; printed = "end\t16\t7\n" }
     -- "The n steps count as n entries for the 4,000": a run that passes it, and nothing runs
     ∷ record { text = T-run 4000; printed = "end\t5\t7\n" }
-    -- "The line becomes `update n`": a second update, which the call names; "A bare `update` is a wrong count of fields."
+    -- "The line becomes `update n`": a second update, which the call names
     ∷ record {
       text = upToUpdate (bytes "update\t1\nset\t0\t9\ncall\t0\t1\n" ++ run 30);
       printed = "commit\t26\t0\t1\nblock\t9\nend\t0\t9\n";
     }
+    -- "A bare `update` is a wrong count of fields."
     ∷ record { text = oneJob 1 5 (bytes "update\nadd\t0\t0\t2\n" ++ callAndSteps 33); printed = "end\t4\t4\n" }
     -- "17 when n is not the next number from 0": numbers from 1, one left out, one that was there
     ∷ record { text = oneJob 1 5 (bytes "update\t1\n"); printed = "end\t17\t4\n" }
     ∷ record { text = upToUpdate (bytes "update\t2\n"); printed = "end\t17\t6\n" }
     ∷ record { text = upToUpdate (bytes "update\t0\n"); printed = "end\t17\t6\n" }
     -- "judged after 5": a 33rd update with a wrong number
-    ∷ record { text = oneJob 1 5 (updates 32 ++ bytes "update\t0\n"); printed = "end\t5\t36\n" }
+    ∷ record { text = oneJob 1 5 (updateLines 32 ++ bytes "update\t0\n"); printed = "end\t5\t36\n" }
     -- and what no listed run shows: "add (word d becomes word a plus k ..)" where d is not a;
     ∷ record {
       text = twoBlocks (update "add\t1\t0\t2\n" (callAndSteps 37));

@@ -212,7 +212,8 @@ fn run_files(bytes: &mut [u8; ROOM], room: &mut [u8; OUTPUT]) {
 }
 
 // Runs the packs. The cases of the last one are wrong on purpose: one in its answer, one in a line of its report, one
-// in its run of steps, which its report takes one step short, and one in the number of its update, which it has pass.
+// in its run of steps, which its report takes one step short, and one in its update's number, which its report lets
+// pass.
 fn main() {
     let mut bytes = [0u8; ROOM];
     let mut room = [0u8; OUTPUT];
