@@ -21,9 +21,9 @@ use Rattle.spec_machine.proofs.EveryRun.{always}
 use Rattle.spec_report.specs.declared.End.{End}
 use Rattle.spec_report.specs.Report.{largestNumber, endNumber, endLine, endEntry, reportEnd}
 use Rattle.spec_report.specs.Outcomes.{
-  RunOutcome,
+  Outcome,
   refused,
-  reported,
+  written,
   endWith,
   handed,
   left,
@@ -46,25 +46,25 @@ use Rattle.public_printing.specs.declared.Printed.{Printed}
 use Rattle.public_printing.specs.Printing.{answered, endOfOutcome, runAnswer, endOfCheck, checkAnswer}
 
 -- With room for all that is printed a run does not end with 15,
-ended-so : (o : RunOutcome) (before : List ℕ) → length (printed o) ≤ length before → endWith o before ≡ endOfOutcome o
+ended-so : (o : Outcome) (before : List ℕ) → length (printed o) ≤ length before → endWith o before ≡ endOfOutcome o
 unfolding printed
-ended-so (refused f n) before short = refl
-ended-so (reported e bytes) before short = rw (le-leb (length bytes) (length before) short)
+ended-so (refused e) before short = refl
+ended-so (written e bytes) before short = rw (le-leb (length bytes) (length before) short)
 
 -- what is handed back, if anything is, is what is printed,
-handed-so : (o : RunOutcome) (before : List ℕ) → length (printed o) ≤ length before → 0 < length (handed o before)
+handed-so : (o : Outcome) (before : List ℕ) → length (printed o) ≤ length before → 0 < length (handed o before)
     → handed o before ≡ printed o
 unfolding printed
-handed-so (refused f n) before short some = absurd (omega (arith, some))
-handed-so (reported e bytes) before short some = rw (le-leb (length bytes) (length before) short)
+handed-so (refused e) before short some = absurd (omega (arith, some))
+handed-so (written e bytes) before short some = rw (le-leb (length bytes) (length before) short)
 
 -- and if nothing is, the last line alone is printed.
-last-so : (o : RunOutcome) (before : List ℕ) → length (printed o) ≤ length before → 0 < length (printed o)
+last-so : (o : Outcome) (before : List ℕ) → length (printed o) ≤ length before → 0 < length (printed o)
     → length (handed o before) ≤ 0
     → (left o before ≡ before) × (printed o ≡ reportEnd (endOfOutcome o))
 unfolding printed left
-last-so (refused f n) before short some none = (refl, refl)
-last-so (reported e bytes) before short some none =
+last-so (refused e) before short some none = (refl, refl)
+last-so (written e bytes) before short some none =
     absurd (omega (arith, some, rw (le-leb (length bytes) (length before) short) at none))
 
 -- The line and the entry of every end are small.

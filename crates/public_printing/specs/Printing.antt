@@ -6,7 +6,7 @@ use lib.ListN.{length}
 use Rattle.spec_format.specs.declared.Verdict.{Verdict}
 use Rattle.spec_report.specs.declared.End.{End}
 use Rattle.spec_report.specs.Report.{endNumber, endLine, endEntry, reportEnd}
-use Rattle.spec_report.specs.Outcomes.{RunOutcome, refused, reported, printed}
+use Rattle.spec_report.specs.Outcomes.{Outcome, refused, written, printed}
 use Rattle.public_printing.specs.declared.Printed.{Printed}
 
 -- The answer beside printed bytes: the number, the line and the refused entry of an end, and how many bytes there are.
@@ -14,12 +14,12 @@ abbrev pub answered : End → List ℕ → Printed
 answered e bytes = record { number = endNumber e; line = endLine e; entry = endEntry e; length = length bytes }
 
 -- How a run ends, with room for every report.
-abbrev pub endOfOutcome : RunOutcome → End
-endOfOutcome (refused f n) = End.Faulty f n
-endOfOutcome (reported e bytes) = e
+abbrev pub endOfOutcome : Outcome → End
+endOfOutcome (refused e) = e
+endOfOutcome (written e bytes) = e
 
 -- The answer beside what is printed of a run.
-abbrev pub runAnswer : RunOutcome → Printed
+abbrev pub runAnswer : Outcome → Printed
 runAnswer o = answered (endOfOutcome o) (printed o)
 
 -- How a check ends.

@@ -21,7 +21,7 @@ use Rattle.spec_ranges.proofs.Ranges.{status-wider, in-range}
 use Rattle.spec_report.specs.declared.End.{End}
 use Rattle.spec_text.specs.WrittenLines.{lineOf}
 use Rattle.spec_report.specs.Report.{joined, commitLines, blockLines, openLines, report, endNumber, endLine}
-use Rattle.spec_report.specs.Outcomes.{reported, endOf, endOfRun, runOutcome}
+use Rattle.spec_report.specs.Outcomes.{written, endOf, endOfRun, runOutcome}
 use Rattle.step_cells.specs.declared.Registers.{Registers}
 use Rattle.step_cells.specs.Tables.{Tables, lent, machineOf}
 use Rattle.step_cells.specs.Book.{bookOf}
@@ -127,7 +127,7 @@ module _ {t : List ℕ} {es : List Entry} {ws : List Registers} {x : Tables} (ok
   -- What the run comes to.
   pub the-outcome : (line : ℕ → ℕ) (count : ℕ) (end : End)
       → end ≡ endOfRun (runOf (planIn t) es) line count
-      → reported end (reportBytes t x (endNumber end) (endLine end)) ≡ runOutcome (planIn t) es line count
+      → written end (reportBytes t x (endNumber end) (endLine end)) ≡ runOutcome (planIn t) es line count
   the-outcome line count end e =
-      ap (reported end) (bytes-are end)
-      ∙ ap (λ y. reported y (report (planIn t) es (runOf (planIn t) es) y)) e
+      ap (written end) (bytes-are end)
+      ∙ ap (λ y. written y (report (planIn t) es (runOf (planIn t) es) y)) e

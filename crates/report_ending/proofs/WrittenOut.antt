@@ -9,22 +9,22 @@ use lib.ListN.{length}
 use Rattle.spec_format.specs.declared.Fault.{Fault}
 use Rattle.spec_report.specs.declared.End.{End}
 use Rattle.spec_report.specs.Report.{endNumber, endLine}
-use Rattle.spec_report.specs.Outcomes.{RunOutcome, refused, reported, left}
+use Rattle.spec_report.specs.Outcomes.{Outcome, refused, written, left}
 use Rattle.report_writer.specs.declared.WrittenLength.{WrittenLength}
 use Rattle.report_writer.specs.Writing.{IsWritten}
 use Rattle.report_ending.specs.declared.WrittenEnd.{WrittenEnd}
 use Rattle.report_ending.specs.Finishing.{WrittenOut, endedBy, endedOf}
 
 -- The same outcome is written out alike.
-pub same-outcome : {o o′ : RunOutcome} {before after : List ℕ} {r : WrittenEnd} → o ≡ o′ → WrittenOut o before r after
+pub same-outcome : {o o′ : Outcome} {before after : List ℕ} {r : WrittenEnd} → o ≡ o′ → WrittenOut o before r after
     → WrittenOut o′ before r after
 same-outcome {before = before} {after = after} {r = r} e w = subst (λ x. WrittenOut x before r after) e w
 
 -- What is refused leaves the buffer as it was.
-pub refused-out : {o : RunOutcome} (f : Fault) (n : ℕ) (before : List ℕ) → o ≡ refused f n
-    → WrittenOut o before (record { end = End.Faulty f n; length = 0 }) before
+pub refused-out : {o : Outcome} (end : End) (before : List ℕ) → o ≡ refused end
+    → WrittenOut o before (record { end = end; length = 0 }) before
 unfolding left
-refused-out f n before e = same-outcome (sym e) (record { end-is = refl; length-is = refl; left-is = refl })
+refused-out end before e = same-outcome (sym e) (record { end-is = refl; length-is = refl; left-is = refl })
 
 -- A report that fits is written whole, and no other is written.
 module _ (e : End) (whole before after : List ℕ) where
@@ -36,7 +36,7 @@ module _ (e : End) (whole before after : List ℕ) where
         end = End.NoRoom;
         length = 0;
       })
-      → WrittenOut (reported e whole) before r after
+      → WrittenOut (written e whole) before r after
   unfolding left
   written-by true t w is a r re =
       record {
@@ -53,11 +53,11 @@ module _ (e : End) (whole before after : List ℕ) where
 
   -- It was written.
   pub written-whole : (n : ℕ) (w : WrittenLength) → IsWritten whole before w after → w ≡ WrittenLength.Whole n
-      → WrittenOut (reported e whole) before (record { end = e; length = n }) after
+      → WrittenOut (written e whole) before (record { end = e; length = n }) after
   written-whole n w is told = go (leb (length whole) (length before)) refl
     where
       go : (b : Bool) → leb (length whole) (length before) ≡ b
-          → WrittenOut (reported e whole) before (record { end = e; length = n }) after
+          → WrittenOut (written e whole) before (record { end = e; length = n }) after
       go true t =
           let same : WrittenLength.Whole n ≡ WrittenLength.Whole (length whole) = sym told ∙ is .answer-is ∙ rw t in
           let l : n ≡ length whole = cc in
@@ -69,11 +69,11 @@ module _ (e : End) (whole before after : List ℕ) where
 
   -- It was not.
   pub written-none : (w : WrittenLength) → IsWritten whole before w after → w ≡ WrittenLength.NoRoom
-      → WrittenOut (reported e whole) before (record { end = End.NoRoom; length = 0 }) after
+      → WrittenOut (written e whole) before (record { end = End.NoRoom; length = 0 }) after
   written-none w is told = go (leb (length whole) (length before)) refl
     where
       go : (b : Bool) → leb (length whole) (length before) ≡ b
-          → WrittenOut (reported e whole) before (record { end = End.NoRoom; length = 0 }) after
+          → WrittenOut (written e whole) before (record { end = End.NoRoom; length = 0 }) after
       go true t =
           let same : WrittenLength.NoRoom ≡ WrittenLength.Whole (length whole) = sym told ∙ is .answer-is ∙ rw t in
           let z : _≡_ {A = ℕ} 0 1 = cc in
@@ -81,7 +81,7 @@ module _ (e : End) (whole before after : List ℕ) where
       go false t = written-by false t _ is (is .answer-is ∙ rw t) _ refl
 
 -- An outcome that was written out has ended with the number, the line and the length of the definitions.
-pub ended-as : {o : RunOutcome} {before after : List ℕ} {r : WrittenEnd} → WrittenOut o before r after
+pub ended-as : {o : Outcome} {before after : List ℕ} {r : WrittenEnd} → WrittenOut o before r after
     → endedBy r ≡ endedOf o before
 ended-as w =
     λ i.

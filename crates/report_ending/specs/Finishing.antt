@@ -4,13 +4,13 @@ use Prim.Native.Nat.{ℕ}
 use mathlib.Core.Path.{_≡_}
 use mathlib.Core.List.{List}
 use lib.ListN.{length}
-use Rattle.spec_report.specs.Outcomes.{RunOutcome, endWith, handed, left}
+use Rattle.spec_report.specs.Outcomes.{Outcome, endWith, handed, left}
 use Rattle.spec_report.specs.Report.{endNumber, endLine}
 use Rattle.report_ending.specs.declared.WrittenEnd.{WrittenEnd}
 use Rattle.report_ending.specs.declared.Ended.{Ended}
 
 -- An outcome was written out: how it ended, how long the report is, and what the buffer then holds.
-pub record WrittenOut (o : RunOutcome) (before : List ℕ) (r : WrittenEnd) (after : List ℕ) : Type 0 where
+pub record WrittenOut (o : Outcome) (before : List ℕ) (r : WrittenEnd) (after : List ℕ) : Type 0 where
   pub end-is : r .end ≡ endWith o before
   pub length-is : r .length ≡ length (handed o before)
   pub left-is : after ≡ left o before
@@ -20,7 +20,7 @@ abbrev pub endedBy : WrittenEnd → Ended
 endedBy f = record { number = endNumber (f .end); line = endLine (f .end); length = f .length }
 
 -- The number, the line and the length of the report of an outcome, with a buffer lent.
-abbrev pub endedOf : RunOutcome → List ℕ → Ended
+abbrev pub endedOf : Outcome → List ℕ → Ended
 endedOf o buffer =
     record {
       number = endNumber (endWith o buffer);

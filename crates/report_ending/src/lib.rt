@@ -5,7 +5,7 @@ ghost use mathlib.Core.List.{[]};
 ghost use Prim.Native.Nat.{_≤_};
 ghost use Rattle.spec_format.specs.Faults.{numberOf};
 ghost use Rattle.spec_report.specs.Report.{largestNumber, endNumber, endLine, endEntry};
-ghost use Rattle.spec_report.specs.Outcomes.{reported, endOf};
+ghost use Rattle.spec_report.specs.Outcomes.{written, endOf};
 ghost use Rattle.step_cells.specs.Tables.{lent};
 ghost use Rattle.run_judge.specs.Rulings.{haltOf};
 ghost use Rattle.report_writer.specs.Writing.{Reportable, reportBytes};
@@ -121,7 +121,7 @@ pub fn finish(
     requires { ⌜ Reportable (now plan) (lent (now cells) (now stat) (now store) [] [] [] (now commits)) ⌝ }
     requires { ⌜ endLine end ≤ 65536 ⌝ }
     ensures { λ r. ⌜ WrittenOut
-        (reported end
+        (written end
         (reportBytes (now (plan .entry))
         (lent (now (cells .entry)) (now (stat .entry)) (now (store .entry)) [] [] [] (now (commits .entry)))
         (endNumber end) (endLine end)))

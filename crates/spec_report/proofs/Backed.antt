@@ -16,7 +16,7 @@ use Rattle.spec_machine.specs.History.{runOf}
 use Rattle.spec_machine.specs.Demand3.{Holds, Demand3}
 use Rattle.spec_machine.proofs.Demand3.{demand3}
 use Rattle.spec_report.specs.Outcomes.{
-  RunOutcome,
+  Outcome,
   runOutcome,
   lineIn,
   ofReading,
@@ -30,7 +30,7 @@ use Rattle.spec_report.specs.Backed.{Backed}
 
 -- The report of a run of any entries is backed, for the plan of an accepted text.
 backed : (form : Form) (text : List ℕ) (plan : Plan) (listed : List Listed) (n : ℕ)
-    → reading form text ≡ accepted plan listed n → (es : List Entry) (line : ℕ → ℕ) (count : ℕ) (o : RunOutcome)
+    → reading form text ≡ accepted plan listed n → (es : List Entry) (line : ℕ → ℕ) (count : ℕ) (o : Outcome)
     → o ≡ runOutcome plan es line count
     → Backed plan es line count o
 backed form text plan listed n read es line count o is =

@@ -26,9 +26,9 @@ use Rattle.spec_machine.specs.History.{begun, entered, runOf}
 use Rattle.spec_report.specs.declared.End.{End}
 use Rattle.spec_report.specs.Report.{endNumber, endLine, endEntry, report}
 use Rattle.spec_report.specs.Outcomes.{
-  RunOutcome,
+  Outcome,
   refused,
-  reported,
+  written,
   runText,
   runSchedule,
   fits,
@@ -44,12 +44,12 @@ within true report buffer e = leb-true _ _ e
 within false report buffer e = omega arith
 
 -- What is handed back is not longer than the buffer.
-pub handed-fits : (o : RunOutcome) (buffer : List ℕ) → length (handed o buffer) ≤ length buffer
-handed-fits (refused f n) buffer = omega arith
-handed-fits (reported e report) buffer = within (fits report buffer) report buffer refl
+pub handed-fits : (o : Outcome) (buffer : List ℕ) → length (handed o buffer) ≤ length buffer
+handed-fits (refused e) buffer = omega arith
+handed-fits (written e report) buffer = within (fits report buffer) report buffer refl
 
 -- The buffer keeps its length.
-pub left-length : (o : RunOutcome) (buffer : List ℕ) → length (left o buffer) ≡ length buffer
+pub left-length : (o : Outcome) (buffer : List ℕ) → length (left o buffer) ≡ length buffer
 unfolding left
 left-length o buffer =
     let h : length (handed o buffer) ≤ length buffer = handed-fits o buffer in
@@ -58,14 +58,14 @@ left-length o buffer =
     ∙ omega (arith, h)
 
 -- What is handed back is the buffer's first part.
-pub handed-first : (o : RunOutcome) (buffer : List ℕ)
+pub handed-first : (o : Outcome) (buffer : List ℕ)
     → take (length (handed o buffer)) (left o buffer) ≡ handed o buffer
 unfolding left
 handed-first o buffer = take-append-seam (handed o buffer) (drop (length (handed o buffer)) buffer)
 
 -- The bytes past it keep what they held; so where nothing is handed back, the buffer is untouched.
 pub rest-kept :
-    (o : RunOutcome) (buffer : List ℕ) →
+    (o : Outcome) (buffer : List ℕ) →
     drop (length (handed o buffer)) (left o buffer) ≡ drop (length (handed o buffer)) buffer
 unfolding left
 rest-kept o buffer = drop-append-seam (handed o buffer) (drop (length (handed o buffer)) buffer)
@@ -77,7 +77,7 @@ entry kind first second = record { kind = kind; first = first; second = second }
 -- An outcome, how many bytes `x` are lent, and what must come of it: number, line, the refused entry, the part handed
 -- back, the buffer.
 pub record Row : Type 0 where
-  pub outcome : RunOutcome
+  pub outcome : Outcome
   pub room : ℕ
   pub number : ℕ
   pub line : ℕ
@@ -86,7 +86,7 @@ pub record Row : Type 0 where
   pub left : String
 
 -- A row whose answer leaves a buffer of four bytes untouched.
-abbrev pub untouched : RunOutcome → ℕ → ℕ → Row
+abbrev pub untouched : Outcome → ℕ → ℕ → Row
 untouched o number line =
     record { outcome = o; room = 4; number = number; line = line; entry = 0; handed = ""; left = "xxxx" }
 

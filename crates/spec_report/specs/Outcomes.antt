@@ -18,10 +18,11 @@ use Rattle.spec_report.specs.declared.End.{End}
 use Rattle.spec_machine.specs.History.{Run, runOf}
 use Rattle.spec_report.specs.Report.{report, reportEnd}
 
--- What a run comes to before the buffer is looked at: a refusal by a check, without a report, or an end with a report.
-pub data RunOutcome : Type 0 where
-  refused : Fault → ℕ → RunOutcome
-  reported : End → List ℕ → RunOutcome
+-- What a call comes to before the lent buffer is looked at: a refusal with which nothing is written, or an end with the
+-- bytes that are to be written. Those of a run are its report.
+pub data Outcome : Type 0 where
+  refused : End → Outcome
+  written : End → List ℕ → Outcome
 
 -- How a run ends: by the refusal that stopped it, with the entry's number and line, or accepted with a count.
 abbrev pub endOf : Option Refusal → ℕ → ℕ → ℕ → End
@@ -33,11 +34,11 @@ abbrev pub endOfRun : Run → (ℕ → ℕ) → ℕ → End
 endOfRun r line count = endOf (r .refusal) (length (r .history) + 1) (line (length (r .history))) count
 
 -- What entries come to for a plan.
-abbrev pub runOutcome : Plan → List Entry → (ℕ → ℕ) → ℕ → RunOutcome
+abbrev pub runOutcome : Plan → List Entry → (ℕ → ℕ) → ℕ → Outcome
 runOutcome plan es line count =
     let r : Run = runOf plan es in
     let e : End = endOfRun r line count in
-    reported e (report plan es r e)
+    written e (report plan es r e)
 
 -- The line of entry i of a text.
 abbrev pub lineIn : List Listed → ℕ → ℕ
@@ -45,12 +46,12 @@ lineIn ls i = getD (map (λ (l : Listed). l .line) ls) i 0
 
 -- "The whole text is checked for 1 to 10 before any entry runs; the first of 11 to 14 stops the run." 16 and 17,
 -- which have "the effect of 2", are checked with 1 to 10.
-abbrev pub ofReading : Reading → RunOutcome
-ofReading (refusal f n) = refused f n
+abbrev pub ofReading : Reading → Outcome
+ofReading (refusal f n) = refused (End.Faulty f n)
 ofReading (accepted plan ls n) = runOutcome plan (map (λ (l : Listed). l .entry) ls) (lineIn ls) n
 
 -- What a text comes to.
-unfoldable pub runText : List ℕ → RunOutcome
+unfoldable pub runText : List ℕ → Outcome
 runText text = ofReading (reading Form.Schedule text)
 
 -- "A record has a kind (0 call, 1 step) and two numbers": the record is of another kind.
@@ -63,42 +64,42 @@ otherFrom n [] = none
 otherFrom n (e ∷ es) = cond (isOther e) (some n) (otherFrom (n + 1) es)
 
 -- The records run, unless one is of another kind.
-abbrev pub unlessOther : Option ℕ → RunOutcome → RunOutcome
+abbrev pub unlessOther : Option ℕ → Outcome → Outcome
 unlessOther none o = o
-unlessOther (some place) o = refused Fault.Misplaced place
+unlessOther (some place) o = refused (End.Faulty Fault.Misplaced place)
 
 -- "After the text's check and before any runs, over 4,000 records give 5 at place 4,001, else the first record of
 -- another kind gives 3 ..; these and 11 to 14 give the record's place from 1 as their line, and acceptance gives their
 -- count."
-abbrev pub ofRecords : Reading → List Entry → RunOutcome
-ofRecords (refusal f n) es = refused f n
+abbrev pub ofRecords : Reading → List Entry → Outcome
+ofRecords (refusal f n) es = refused (End.Faulty f n)
 ofRecords (accepted plan ls n) es =
-    cond (ltb mostEntries (length es)) (refused Fault.TooMany (mostEntries + 1))
+    cond (ltb mostEntries (length es)) (refused (End.Faulty Fault.TooMany (mostEntries + 1)))
     (unlessOther (otherFrom 1 es) (runOutcome plan es (λ i. i + 1) (length es)))
 
 -- What a plan's text, "in which an entry line is 3", comes to with a schedule of records.
-unfoldable pub runSchedule : List ℕ → List Entry → RunOutcome
+unfoldable pub runSchedule : List ℕ → List Entry → Outcome
 runSchedule text es = ofRecords (reading Form.PlanAlone text) es
 
--- A report is written where it is not longer than the lent buffer.
+-- Bytes are written where they are not longer than the lent buffer.
 abbrev pub fits : List ℕ → List ℕ → Bool
 fits bytes buffer = leb (length bytes) (length buffer)
 
 -- How the call ends, with a buffer lent: "15 is decided last."
-abbrev pub endWith : RunOutcome → List ℕ → End
-endWith (refused f n) buffer = End.Faulty f n
-endWith (reported e bytes) buffer = cond (fits bytes buffer) e End.NoRoom
+abbrev pub endWith : Outcome → List ℕ → End
+endWith (refused e) buffer = e
+endWith (written e bytes) buffer = cond (fits bytes buffer) e End.NoRoom
 
 -- "The caller gets back the written part of the buffer it lent, empty where no report is written".
-abbrev pub handed : RunOutcome → List ℕ → List ℕ
-handed (refused f n) buffer = []
-handed (reported e bytes) buffer = cond (fits bytes buffer) bytes []
+abbrev pub handed : Outcome → List ℕ → List ℕ
+handed (refused e) buffer = []
+handed (written e bytes) buffer = cond (fits bytes buffer) bytes []
 
 -- What the buffer then holds: "bytes past the report keep what they held".
-unfoldable pub left : RunOutcome → List ℕ → List ℕ
+unfoldable pub left : Outcome → List ℕ → List ℕ
 left o buffer = inFirstPlaces (handed o buffer) buffer
 
 -- "A program .. prints the report, or `end number line` alone for 1 to 10", and for 16 and 17.
-unfoldable pub printed : RunOutcome → List ℕ
-printed (refused f n) = reportEnd (End.Faulty f n)
-printed (reported e bytes) = bytes
+unfoldable pub printed : Outcome → List ℕ
+printed (refused e) = reportEnd e
+printed (written e bytes) = bytes

@@ -12,15 +12,15 @@ use Rattle.spec_format.specs.Reading.{accepted, longest, reading}
 use Rattle.spec_machine.specs.History.{runOf}
 use Rattle.spec_report.specs.declared.End.{End}
 use Rattle.spec_report.specs.Report.{endNumber, endLine, endEntry, reportEnd, report}
-use Rattle.spec_report.specs.Outcomes.{RunOutcome, reported, runText}
+use Rattle.spec_report.specs.Outcomes.{Outcome, written, runText}
 
 -- Both are reports of the one run of these entries for this plan. They end alike, but for the line: the one's is `line`
 -- of the other's. Before `end` they have the same bytes.
-pub record RunsAlike (line : ℕ → ℕ) (plan : Plan) (es : List Entry) (one other : RunOutcome) : Type 0 where
+pub record RunsAlike (line : ℕ → ℕ) (plan : Plan) (es : List Entry) (one other : Outcome) : Type 0 where
   pub end : End
   pub otherEnd : End
-  pub one-is : one ≡ reported end (report plan es (runOf plan es) end)
-  pub other-is : other ≡ reported otherEnd (report plan es (runOf plan es) otherEnd)
+  pub one-is : one ≡ written end (report plan es (runOf plan es) end)
+  pub other-is : other ≡ written otherEnd (report plan es (runOf plan es) otherEnd)
   pub number-is : endNumber end ≡ endNumber otherEnd
   pub entry-is : endEntry end ≡ endEntry otherEnd
   pub line-is : endLine end ≡ line (endLine otherEnd)

@@ -41,7 +41,7 @@ use Rattle.spec_ranges.proofs.Ranges.{status-wider, in-range}
 use Rattle.spec_report.specs.declared.End.{End}
 use Rattle.spec_text.specs.WrittenLines.{lineOf}
 use Rattle.spec_report.specs.Report.{endLine, commitLines, blockLines, openLine, openLines, reportEnd, report}
-use Rattle.spec_report.specs.Outcomes.{RunOutcome, refused, runOutcome, printed}
+use Rattle.spec_report.specs.Outcomes.{Outcome, refused, runOutcome, printed}
 use Rattle.spec_report.specs.Outcomes.{
   lineIn,
   ofReading,
@@ -166,7 +166,7 @@ outcome-short plan ok es few line count l c =
     run-short plan ok es few _ (end-low (runOf plan es .refusal) _ _ count 65537 l c)
 
 -- What is printed of a refusal by a check at a line of at most 65,537.
-refused-short : (f : Fault) (n : ℕ) → n ≤ 65537 → length (printed (refused f n)) ≤ longestReport
+refused-short : (f : Fault) (n : ℕ) → n ≤ 65537 → length (printed (refused (End.Faulty f n))) ≤ longestReport
 unfolding printed
 refused-short f n h = omega (arith, end-short (End.Faulty f n) h)
 
@@ -199,7 +199,7 @@ other-low n (e ∷ es) m h =
 
 -- What is printed of records that run unless one is of another kind.
 unless-short :
-    (x : Option ℕ) (o : RunOutcome) → LowPlace 65537 x → length (printed o) ≤ longestReport
+    (x : Option ℕ) (o : Outcome) → LowPlace 65537 x → length (printed o) ≤ longestReport
     → length (printed (unlessOther x o)) ≤ longestReport
 unless-short none o h short = short
 unless-short (some place) o h short = refused-short Fault.Misplaced place h

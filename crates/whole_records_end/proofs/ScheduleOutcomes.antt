@@ -19,7 +19,7 @@ use Rattle.spec_report.specs.declared.End.{End}
 use Rattle.spec_report.specs.Report.{endNumber, endLine}
 use Rattle.spec_report.specs.Outcomes.{
   refused,
-  reported,
+  written,
   endOf,
   runOutcome,
   otherFrom,
@@ -38,26 +38,26 @@ use Rattle.whole_records_start.specs.BeforeAndAfter.{Accepts}
 
 -- A refused text.
 pub refused-text : (text : List ℕ) (es : List Entry) (f : Fault) (n : ℕ)
-    → verdictOf (reading Form.PlanAlone text) ≡ Verdict.Refused f n → runSchedule text es ≡ refused f n
+    → verdictOf (reading Form.PlanAlone text) ≡ Verdict.Refused f n → runSchedule text es ≡ refused (End.Faulty f n)
 unfolding runSchedule
 refused-text text es f n e = by (reading Form.PlanAlone text) e
   where
-    by : (x : Reading) → verdictOf x ≡ Verdict.Refused f n → ofRecords x es ≡ refused f n
+    by : (x : Reading) → verdictOf x ≡ Verdict.Refused f n → ofRecords x es ≡ refused (End.Faulty f n)
     by (refusal g m) t =
         let g-is : g ≡ f = cc in
         let m-is : m ≡ n = cc in
-        λ i. refused (g-is i) (m-is i)
+        λ i. refused (End.Faulty (g-is i) (m-is i))
     by (accepted plan ls m) t = let z : _≡_ {A = ℕ} 0 1 = cc in absurd (omega arith)
 
 -- Too many records.
 pub too-many : (text : List ℕ) (es : List Entry) (lines : ℕ)
     → verdictOf (reading Form.PlanAlone text) ≡ Verdict.Accepted lines → mostEntries < length es
-    → runSchedule text es ≡ refused Fault.TooMany (mostEntries + 1)
+    → runSchedule text es ≡ refused (End.Faulty Fault.TooMany (mostEntries + 1))
 unfolding runSchedule
 too-many text es lines e many = by (reading Form.PlanAlone text) e
   where
     by : (x : Reading) → verdictOf x ≡ Verdict.Accepted lines
-        → ofRecords x es ≡ refused Fault.TooMany (mostEntries + 1)
+        → ofRecords x es ≡ refused (End.Faulty Fault.TooMany (mostEntries + 1))
     by (refusal g m) t = let z : _≡_ {A = ℕ} 0 1 = cc in absurd (omega arith)
     by (accepted plan ls m) t = rw (lt-ltb mostEntries (length es) many)
 
@@ -72,11 +72,12 @@ module _ (text : List ℕ) (es : List Entry) (plan : Plan) (ls : List Listed) (l
 
   -- There is one.
   pub misplaced : (other : ℕ) → placeNoted other ≡ otherFrom 1 es → 0 < other
-      → runSchedule text es ≡ refused Fault.Misplaced other
+      → runSchedule text es ≡ refused (End.Faulty Fault.Misplaced other)
   misplaced other is some-place = by-other ∙ by other is some-place
     where
       by : (n : ℕ) → placeNoted n ≡ otherFrom 1 es → 0 < n
-          → unlessOther (otherFrom 1 es) (runOutcome plan es (λ i. i + 1) (length es)) ≡ refused Fault.Misplaced n
+          → unlessOther (otherFrom 1 es) (runOutcome plan es (λ i. i + 1) (length es))
+          ≡ refused (End.Faulty Fault.Misplaced n)
       by zero e l = absurd (omega arith)
       by (suc n) e l = ap (λ q. unlessOther q (runOutcome plan es (λ i. i + 1) (length es))) (sym e)
 
@@ -111,8 +112,8 @@ module _ {text : List ℕ} {es : List Entry} {lines : ℕ} {t : List ℕ} {x : T
       (omega (arith, few)))
 
   -- What is written, where no record is of another kind.
-  pub written : bookOf x .other ≤ 0 → reported end (reportBytes t x (endNumber end) (endLine end)) ≡ runSchedule text es
-  written none-other =
+  pub report-is : bookOf x .other ≤ 0 → written end (reportBytes t x (endNumber end) (endLine end)) ≡ runSchedule text es
+  report-is none-other =
       the-outcome sound few (ran .1) (λ i. i + 1) (length es) end
       (so ∙ end-is sound few (ran .1) (λ i. i + 1) (length es))
       ∙ runs text es (planIn t) (a .listed) lines (a .read) few (bookOf x .other) (ran .1 .other-is) none-other

@@ -20,7 +20,7 @@ use Rattle.read_text.specs.Readings.{readingFrom, entryCount}
 use Rattle.spec_machine.specs.History.{runOf}
 use Rattle.spec_report.specs.declared.End.{End}
 use Rattle.spec_report.specs.Report.{endNumber, endLine}
-use Rattle.spec_report.specs.Outcomes.{refused, reported, endOf, endOfRun, lineIn, ofReading, runText}
+use Rattle.spec_report.specs.Outcomes.{refused, written, endOf, endOfRun, lineIn, ofReading, runText}
 use Rattle.spec_report.proofs.Ends.{end-low}
 use Rattle.step_cells.specs.Tables.{Tables, lent}
 use Rattle.step_cells.specs.Book.{bookOf}
@@ -35,7 +35,7 @@ use Rattle.whole_text.specs.Reads.{Reads}
 
 -- A refused text.
 pub refused-text : (text : List ℕ) (f : Fault) (n : ℕ) → refusal f n ≡ reading Form.Schedule text
-    → runText text ≡ refused f n
+    → runText text ≡ refused (End.Faulty f n)
 unfolding runText
 refused-text text f n e = sym (ap ofReading e)
 
@@ -126,7 +126,7 @@ module _ (text t notes : List ℕ) (parsed : Parsed) (lines : ℕ) (reads : Read
       low-line = low-end end the-end
 
       -- and what is written.
-      pub the-run : reported end (reportBytes t x (endNumber end) (endLine end)) ≡ runText text
+      pub the-run : written end (reportBytes t x (endNumber end) (endLine end)) ≡ runText text
       unfolding runText
       the-run =
           the-outcome sound-plan few-es (all-ran .1) (lineIn ls) lines end the-end

@@ -19,7 +19,7 @@ use Rattle.whole_records_end.proofs.ScheduleOutcomes.{
   misplaced,
   to-report,
   low-place,
-  written,
+  report-is,
 }
 use borrow.Author.Needs.{needs}
 use Rattle.whole_records_end.proofs.report_of.Statement.{statement}
@@ -45,7 +45,7 @@ enum-known-verdict c = search needs
 
 returns : tie.Need-returns
 returns c text es addr old new k =
-    refused-out _ _ _ (refused-text text es _ _ (k .verdict-is ∙ c .before .verdict .given .1))
+    refused-out _ _ (refused-text text es _ _ (k .verdict-is ∙ c .before .verdict .given .1))
 
 enum-told : tie.Need-enum-told
 enum-told c = search needs
@@ -55,7 +55,7 @@ add-past c = search needs
 
 returns-2 : tie.Need-returns-2
 returns-2 c text es addr old new k =
-    refused-out _ _ _
+    refused-out _ _
     (too-many text es _ (k .verdict-is ∙ c .before .enum-told .given .1) (omega (arith, k .counted, c .if1 .taken)))
 
 -- Few records have run beside an accepted text.
@@ -80,7 +80,7 @@ returns-3 : tie.Need-returns-3
 returns-3 c text es addr old new k =
     let o = c .before in
     let r = ran (o .before) k in
-    refused-out _ _ _
+    refused-out _ _
     (misplaced text es _ (r .0 .listed) _ (r .0 .read) (few (o .before) k) _
     (ap placeNoted (o .other .ensures) ∙ r .1 .1 .other-is) (c .if2 .taken))
 
@@ -140,7 +140,7 @@ returns-4 c text es addr old new k =
     let r = ran n k in
     let o = e .before .before .before .before in
     same-outcome
-    (written (r .0) (r .1) (few n k) (e .end-of .result) (end-so e k)
+    (report-is (r .0) (r .1) (few n k) (e .end-of .result) (end-so e k)
     (subst (λ m. m ≤ 0) (o .other .ensures) (omega (arith, e .before .before .before .if2 .left))))
     (f .finish .ensures)
 

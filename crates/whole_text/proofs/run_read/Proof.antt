@@ -43,7 +43,7 @@ returns c =
     let v = c .before in
     let r = v .before .before in
     let a = start r .args in
-    refused-out _ _ (now (a .buffer))
+    refused-out _ (now (a .buffer))
     (refused-text (now (a .text)) _ _ (given r (Verdict.Refused _ _) (v .verdict .given .1)))
 
 same-length : tie.Need-same-length
