@@ -1,6 +1,7 @@
 -- Single entries whose numbers a plan has: what is known of entries that a run accepts. Assumes nothing.
 use Prim.Native.Nat.{ℕ, _<_}
 use mathlib.Core.Path.{_≡_}
+use mathlib.Core.Logic.{_⊎_}
 use mathlib.Core.List.{List, [], _∷_}
 use lib.ListN.{length}
 use Rattle.spec_format.specs.declared.Entry.{Entry}
