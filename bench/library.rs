@@ -15,6 +15,15 @@ extern "C" {
         buffer: *mut u8,
         buffer_length: usize,
     ) -> Ended;
+    fn point_memory_write(text: *const u8, text_length: usize, buffer: *mut u8, buffer_length: usize) -> Ended;
+    fn point_memory_write_schedule(
+        text: *const u8,
+        text_length: usize,
+        records: *const Record,
+        count: usize,
+        buffer: *mut u8,
+        buffer_length: usize,
+    ) -> Ended;
 }
 
 // In each call below every pointer and length is that of a slice which lives through the call, and the buffer is lent
@@ -39,6 +48,25 @@ pub fn run(text: &[u8], buffer: &mut [u8]) -> Ended {
 pub fn run_schedule(text: &[u8], records: &[Record], buffer: &mut [u8]) -> Ended {
     unsafe {
         point_memory_run_schedule(
+            text.as_ptr(),
+            text.len(),
+            records.as_ptr(),
+            records.len(),
+            buffer.as_mut_ptr(),
+            buffer.len(),
+        )
+    }
+}
+
+/// Writes the one text for a text.
+pub fn write(text: &[u8], buffer: &mut [u8]) -> Ended {
+    unsafe { point_memory_write(text.as_ptr(), text.len(), buffer.as_mut_ptr(), buffer.len()) }
+}
+
+/// Writes the one text for a schedule of records beside a plan's text.
+pub fn write_schedule(text: &[u8], records: &[Record], buffer: &mut [u8]) -> Ended {
+    unsafe {
+        point_memory_write_schedule(
             text.as_ptr(),
             text.len(),
             records.as_ptr(),

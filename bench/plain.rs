@@ -1,8 +1,8 @@
-//! Document 01 with document 02's runs of steps and update numbers in plain Rust: the text's check (numbers 1 to 10, 16
-//! and 17), the machine (the step list A1 to H42, refusals 11 to 14), the report (refusal 15), and the run of a
-//! schedule of records beside a plan's text. It is an independent implementation, written from the documents alone; the
-//! proved one is compared with it, in its answers and in its time. It also counts the late stores of a run. Nothing
-//! here is proved.
+//! Document 01 with document 02's runs of steps, update numbers and plan writer in plain Rust: the text's check
+//! (numbers 1 to 10, 16 and 17), the machine (the step list A1 to H42, refusals 11 to 14), the report (refusal 15), the
+//! run of a schedule of records beside a plan's text, and the writer of the one text for either. It is an independent
+//! implementation, written from the documents alone; the proved one is compared with it, in its answers and in its
+//! time. It also counts the late stores of a run. Nothing here is proved.
 
 /// The most cards, jobs, blocks, words of a block, and blocks that one update may write.
 const CARDS: usize = 8;
@@ -22,7 +22,8 @@ pub struct Answer {
     pub line: usize,
 }
 
-/// What a run answers: a number of the table, its line, and the length of the report in the lent buffer.
+/// What a run or the writer answers: a number of the table, its line, and the length of the report, or of the text, in
+/// the lent buffer.
 #[repr(C)]
 #[derive(Clone, Copy, Debug, PartialEq, Eq)]
 pub struct Ended {
@@ -75,22 +76,23 @@ pub fn run_schedule(text: &[u8], records: &[Record], buffer: &mut [u8]) -> Ended
 
 /// As `run`, with the late stores.
 pub fn run_counting(text: &[u8], buffer: &mut [u8]) -> (Ended, Late) {
-    match read(text, true) {
-        Ok(plan) => run_entries(&plan, plan.lines - plan.entries.len(), &plan.entries, buffer),
-        Err((number, line)) => refused(number, line),
-    }
+    run_read(read(text, true), buffer)
 }
 
 /// As `run_schedule`, with the late stores.
 pub fn run_schedule_counting(text: &[u8], records: &[Record], buffer: &mut [u8]) -> (Ended, Late) {
-    let plan = match read(text, false) {
-        Ok(plan) => plan,
-        Err((number, line)) => return refused(number, line),
-    };
-    if records.len() > ENTRIES { return refused(5, ENTRIES + 1); }
-    if let Some(index) = records.iter().position(|record| record.kind > 1) { return refused(3, index + 1); }
-    let entries: Vec<Entry> = records.iter().map(Entry::of).collect();
-    run_entries(&plan, 0, &entries, buffer)
+    run_read(read_schedule(text, records), buffer)
+}
+
+/// Checks a text, runs its entries, and writes the one text for its plan and entries into the leading part of the
+/// buffer. A refused run leaves the buffer as it is.
+pub fn write(text: &[u8], buffer: &mut [u8]) -> Ended {
+    write_read(read(text, true), buffer)
+}
+
+/// Checks a plan's text and a schedule of records, runs the records, and writes the one text for them as `write` does.
+pub fn write_schedule(text: &[u8], records: &[Record], buffer: &mut [u8]) -> Ended {
+    write_read(read_schedule(text, records), buffer)
 }
 
 /// What a check answers by what was read.
@@ -101,37 +103,48 @@ fn answer(read: Result<Plan, (usize, usize)>) -> Answer {
     }
 }
 
-/// A run refused before any entry runs: no report and no stores.
-fn refused(number: usize, line: usize) -> (Ended, Late) {
-    (Ended { number, line, length: 0 }, Late::default())
+/// Runs what was read and writes the report. Refused before any entry runs, it has no report and no stores.
+fn run_read(read: Result<Plan, (usize, usize)>, buffer: &mut [u8]) -> (Ended, Late) {
+    match read {
+        Ok(plan) => {
+            let mut machine = Machine::new(&plan);
+            let (number, line) = machine.run(&plan);
+            (fill(buffer, &machine.report(&plan, number, line), number, line), machine.late)
+        }
+        Err((number, line)) => (Ended { number, line, length: 0 }, Late::default()),
+    }
 }
 
-/// Runs entries, each with a line of its own, up to the first refused one and writes the report. The first line is one
-/// past `before`.
-fn run_entries(plan: &Plan, before: usize, entries: &[Entry], buffer: &mut [u8]) -> (Ended, Late) {
-    let mut machine = Machine::new(plan);
-    let (mut number, mut line) = (0, before + entries.len());
-    for (index, &entry) in entries.iter().enumerate() {
-        if let Err(refusal) = machine.entry(plan, entry) {
-            (number, line) = (refusal, before + index + 1);
-            break;
-        }
+/// Runs what was read and writes the one text for it, unless something is refused.
+fn write_read(read: Result<Plan, (usize, usize)>, buffer: &mut [u8]) -> Ended {
+    match read {
+        Ok(plan) => match Machine::new(&plan).run(&plan) {
+            (0, line) => fill(buffer, &plan.text(), 0, line),
+            (number, line) => Ended { number, line, length: 0 },
+        },
+        Err((number, line)) => Ended { number, line, length: 0 },
     }
-    let report = machine.report(plan, number, line);
-    let ended = match buffer.get_mut(..report.len()) {
-        Some(part) => { part.copy_from_slice(&report); Ended { number, line, length: report.len() } }
+}
+
+/// Puts a report or a text into the leading part of the buffer, and answers with its length; 15 where it does not fit.
+fn fill(buffer: &mut [u8], written: &[u8], number: usize, line: usize) -> Ended {
+    match buffer.get_mut(..written.len()) {
+        Some(part) => { part.copy_from_slice(written); Ended { number, line, length: written.len() } }
         None => Ended { number: 15, line: 0, length: 0 },
-    };
-    (ended, machine.late)
+    }
 }
 
 /// A word of the memory: its block, and its place in the block.
 #[derive(Clone, Copy)]
 struct Word { block: usize, offset: usize }
 
+/// The kinds of a move.
+#[derive(Clone, Copy, PartialEq)]
+enum MoveKind { Copy, Set, Add }
+
 /// A move: `to` becomes `plus`, added to the word `from` where the move reads. A copy adds 0; a set does not read.
 #[derive(Clone, Copy)]
-struct Move { reads: bool, from: Word, to: Word, plus: u32 }
+struct Move { kind: MoveKind, from: Word, to: Word, plus: u32 }
 
 /// A line of the schedule, or a record: a call, or so many single steps of a card.
 #[derive(Clone, Copy)]
@@ -148,7 +161,8 @@ impl Entry {
     }
 }
 
-/// A text as read: P, N, B, S and C, the lists that follow, and the count of all lines.
+/// A text as read: P, N, B, S and C, the lists that follow, and the count of all lines. With records their entries are
+/// in the list, and their count is that of the lines.
 #[derive(Default)]
 pub struct Plan {
     cards: usize, job_count: usize, blocks: usize, words: usize, writes: usize,
@@ -157,6 +171,50 @@ pub struct Plan {
     updates: Vec<Vec<Move>>,
     entries: Vec<Entry>,
     lines: usize,
+}
+
+impl Plan {
+    /// The one text for the plan and its entries. Steps of one card that follow each other are joined.
+    fn text(&self) -> Vec<u8> {
+        let mut text = Vec::with_capacity(65_536);
+        let sizes = [self.cards, self.job_count, self.blocks, self.words, self.writes];
+        put_line(&mut text, b"plan", sizes.map(|size| size as i64));
+        for &(card, priority) in &self.jobs { put_line(&mut text, b"job", [card as i64, priority as i64]); }
+        for words in self.memory.chunks_exact(self.words) {
+            put_line(&mut text, b"block", words.iter().map(|&word| i64::from(word)));
+        }
+        for (n, moves) in self.updates.iter().enumerate() {
+            put_line(&mut text, b"update", [n as i64]);
+            for &Move { kind, from, to, plus } in moves {
+                let [d, a] = [to, from].map(|word| (word.block * self.words + word.offset) as i64);
+                let k = i64::from(plus);
+                match kind {
+                    MoveKind::Copy => put_line(&mut text, b"copy", [d, a]),
+                    MoveKind::Set => put_line(&mut text, b"set", [d, k]),
+                    MoveKind::Add => put_line(&mut text, b"add", [d, a, k]),
+                }
+            }
+        }
+        let mut rest = &self.entries[..];
+        while let [entry, behind @ ..] = rest {
+            rest = behind;
+            match *entry {
+                Entry::Call { job, update } => put_line(&mut text, b"call", [job as i64, update as i64]),
+                Entry::Steps { card, mut count } => {
+                    while let [Entry::Steps { card: next, count: more }, behind @ ..] = rest {
+                        if *next != card { break; }
+                        count += more;
+                        rest = behind;
+                    }
+                    match count {
+                        1 => put_line(&mut text, b"step", [card as i64]),
+                        _ => put_line(&mut text, b"step", [card as i64, count as i64]),
+                    }
+                }
+            }
+        }
+        text
+    }
 }
 
 /// How far a text is read: which line comes next, with Moves for after the first update and before any entry.
@@ -200,6 +258,14 @@ pub fn read(text: &[u8], with_entries: bool) -> Result<Plan, (usize, usize)> {
     if reader.stage < Stage::Updates { Err((3, reader.plan.lines + 1)) } else { Ok(reader.plan) }
 }
 
+/// Reads a plan's text, and records as its entries; a refused record has its place for a line.
+fn read_schedule(text: &[u8], records: &[Record]) -> Result<Plan, (usize, usize)> {
+    let plan = read(text, false)?;
+    if records.len() > ENTRIES { return Err((5, ENTRIES + 1)); }
+    if let Some(index) = records.iter().position(|record| record.kind > 1) { return Err((3, index + 1)); }
+    Ok(Plan { entries: records.iter().map(Entry::of).collect(), lines: records.len(), ..plan })
+}
+
 impl Reader {
     /// Reads one line, by its kind and where it stands.
     fn line(&mut self, line: &[u8]) -> Result<(), usize> {
@@ -210,9 +276,9 @@ impl Reader {
             (b"job", Stage::Jobs) => self.job_line(numbers(fields)?),
             (b"block", Stage::Blocks) => self.block_line(fields),
             (b"update", Stage::Updates | Stage::Moves) => self.update_line(numbers(fields)?),
-            (b"copy", Stage::Moves) => numbers(fields).and_then(|[d, a]| self.move_line(d, Some(a), 0)),
-            (b"set", Stage::Moves) => numbers(fields).and_then(|[d, k]| self.move_line(d, None, k)),
-            (b"add", Stage::Moves) => numbers(fields).and_then(|[d, a, k]| self.move_line(d, Some(a), k)),
+            (b"copy", Stage::Moves) => numbers(fields).and_then(|[d, a]| self.move_line(MoveKind::Copy, d, a, 0)),
+            (b"set", Stage::Moves) => numbers(fields).and_then(|[d, k]| self.move_line(MoveKind::Set, d, d, k)),
+            (b"add", Stage::Moves) => numbers(fields).and_then(|[d, a, k]| self.move_line(MoveKind::Add, d, a, k)),
             (b"call", Stage::Updates | Stage::Moves | Stage::Entries) if self.with_entries =>
                 numbers(fields).and_then(|[job, update]| self.entry_line(Entry::Call { job, update }, 1)),
             (b"step", Stage::Updates | Stage::Moves | Stage::Entries) if self.with_entries =>
@@ -261,17 +327,17 @@ impl Reader {
         Ok(())
     }
 
-    /// A move of the latest update: word d becomes word a, if there is one, plus k.
-    fn move_line(&mut self, d: usize, a: Option<usize>, k: usize) -> Result<(), usize> {
+    /// A move of the latest update: word d becomes k, added to word a where the move reads; a set has d for a.
+    fn move_line(&mut self, kind: MoveKind, d: usize, a: usize, k: usize) -> Result<(), usize> {
         let (blocks, words) = (self.plan.blocks, self.plan.words);
         let word = |w: usize| Word { block: w / words, offset: w % words };
-        let (to, from) = (word(d), word(a.unwrap_or(d)));
+        let (to, from) = (word(d), word(a));
         let update = self.plan.updates.last_mut().ok_or(3usize)?;
         demand(update.len() < 16, 5)?;
         demand(to.block < blocks && from.block < blocks, 9)?;
         self.written |= 1 << to.block;
         demand(self.written.count_ones() as usize <= self.plan.writes, 10)?;
-        update.push(Move { reads: a.is_some(), from, to, plus: k as u32 });
+        update.push(Move { kind, from, to, plus: k as u32 });
         Ok(())
     }
 
@@ -341,7 +407,7 @@ impl Job {
     /// The place where the move reached begins, or H22 after the last.
     fn begin_move(&self, moves: &[Move]) -> Place {
         match moves.get(self.at) {
-            Some(next) => if next.reads { Place::ReadCheck } else { Place::WriteCheck },
+            Some(next) => if next.kind == MoveKind::Set { Place::WriteCheck } else { Place::ReadCheck },
             None => Place::H22,
         }
     }
@@ -392,6 +458,16 @@ impl Machine {
             running: [none; CARDS],
             ..Machine::default()
         }
+    }
+
+    /// Runs all entries, each with a line of its own, up to the first refused one: the number and the line that the run
+    /// ends with.
+    fn run(&mut self, plan: &Plan) -> (usize, usize) {
+        let before = plan.lines - plan.entries.len();
+        for (index, &entry) in plan.entries.iter().enumerate() {
+            if let Err(number) = self.entry(plan, entry) { return (number, before + index + 1); }
+        }
+        (0, plan.lines)
     }
 
     /// Whether a job is active.
@@ -498,8 +574,8 @@ impl Machine {
             }
             WriteWord => {
                 let moves = &plan.updates[job.update];
-                let Move { reads, to, plus, .. } = moves[job.at];
-                let word = if reads { job.word.wrapping_add(plus) } else { plus };
+                let Move { kind, to, plus, .. } = moves[job.at];
+                let word = if kind == MoveKind::Set { plus } else { job.word.wrapping_add(plus) };
                 self.store[job.marks[to.block].number * plan.words + to.offset] = word;
                 job.at += 1;
                 job.begin_move(moves)
@@ -580,19 +656,28 @@ impl Machine {
     }
 }
 
-/// Adds a line: its kind, then its numbers in base ten, each after a tab.
-fn put_line(report: &mut Vec<u8>, kind: &[u8], numbers: impl IntoIterator<Item = i64>) {
-    report.extend_from_slice(kind);
+/// Adds a line: its kind, then its numbers in base ten, each after a tab. Inlined it knows the length of the kind.
+#[inline(always)]
+fn put_line(lines: &mut Vec<u8>, kind: &[u8], numbers: impl IntoIterator<Item = i64>) {
+    lines.extend_from_slice(kind);
     for number in numbers {
-        report.extend_from_slice(if number < 0 { &b"\t-"[..] } else { &b"\t"[..] });
-        let first = report.len();
-        let mut rest = number.unsigned_abs();
-        loop {
-            report.push(b'0' + (rest % 10) as u8);
-            rest /= 10;
-            if rest == 0 { break; }
-        }
-        report[first..].reverse();
+        lines.push(b'\t');
+        if number < 0 { lines.push(b'-'); }
+        put_digits(lines, number.unsigned_abs());
     }
-    report.push(b'\n');
+    lines.push(b'\n');
+}
+
+/// Adds a number in base ten.
+#[inline(always)]
+fn put_digits(lines: &mut Vec<u8>, number: u64) {
+    if number < 10 { return lines.push(b'0' + number as u8); }
+    let mut digits = [0; 20];
+    let (mut first, mut rest) = (digits.len(), number);
+    while rest > 0 {
+        first -= 1;
+        digits[first] = b'0' + (rest % 10) as u8;
+        rest /= 10;
+    }
+    lines.extend_from_slice(&digits[first..]);
 }

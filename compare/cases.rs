@@ -1,10 +1,10 @@
 //! The cases of the comparison: sound plans of all sizes with schedules in which cards are delayed, steps joined into
 //! runs, updates numbered wrongly, entries that are refused, damaged texts, and texts and schedules about the greatest
-//! length. All of it comes from one seed a case.
+//! length. For the writer there are more whose entries are all accepted. All of it comes from one seed a case.
 
 use crate::plain::{self, Entry, Machine, Plan, Record};
 
-/// A case: a text to be run, or a plan's text beside which records are to be run.
+/// A case: a text to be run or written, or a plan's text beside which records are to be run or written.
 pub struct Case {
     pub text: Vec<u8>,
     pub records: Option<Vec<Record>>,
@@ -68,6 +68,20 @@ impl Sizes {
             4 => ([8, 16, 16, 16, 8, 32, 16], [8, 16, 16, 16, 8, 32, 16]),
             _ => ([1, 1, 1, 1, 1, 0, 0], [8, 16, 16, 16, 8, 32, 16]),
         };
+        Sizes::between(random, least, most)
+    }
+
+    /// One card with many jobs, whose calls take many steps or few.
+    fn of_one_card(random: &mut Random) -> Sizes {
+        let (least, most) = match random.below(2) {
+            0 => ([1, 8, 8, 1, 4, 1, 8], [1, 16, 16, 16, 8, 8, 16]),
+            _ => ([1, 8, 1, 1, 1, 1, 0], [1, 16, 2, 2, 1, 2, 1]),
+        };
+        Sizes::between(random, least, most)
+    }
+
+    /// Each size from its least to its most.
+    fn between(random: &mut Random, least: [usize; 7], most: [usize; 7]) -> Sizes {
         let mut size = |place: usize| random.between(least[place], most[place]);
         Sizes {
             cards: size(0),
@@ -277,6 +291,12 @@ impl<'a> Scheduler<'a> {
         }
     }
 
+    /// Runs an entry that was made to be accepted.
+    fn take(&mut self, record: &Record) {
+        let taken = self.machine.entry(self.plan, Entry::of(record));
+        assert!(taken.is_ok(), "an entry made to be accepted is refused");
+    }
+
     /// So many entries, or fewer where none is accepted. In one schedule of three a refused entry stands at some place.
     fn schedule(&mut self, random: &mut Random, count: usize) -> Vec<Record> {
         let mut records = Vec::with_capacity(count);
@@ -292,8 +312,32 @@ impl<'a> Scheduler<'a> {
             }
             let Some(record) = self.accepted(random) else { break };
             records.push(record);
-            let taken = self.machine.entry(self.plan, Entry::of(&record));
-            assert!(taken.is_ok(), "an entry made to be accepted is refused");
+            self.take(&record);
+        }
+        records
+    }
+
+    /// So many accepted entries, or fewer where there are no more. In rounds, all jobs are called whenever none is
+    /// active, and then hardly another.
+    fn accepted_schedule(&mut self, random: &mut Random, count: usize, in_rounds: bool) -> Vec<Record> {
+        if in_rounds {
+            self.calls = 1 << 20;
+        }
+        let mut to_call = 0;
+        let mut records = Vec::with_capacity(count);
+        while records.len() < count {
+            if in_rounds && self.job(random, true).is_none() {
+                to_call = self.sizes.jobs;
+            }
+            let idle = if to_call > 0 { self.job(random, false) } else { None };
+            to_call = to_call.saturating_sub(1);
+            let next = match idle {
+                Some(job) => Some(call(job, random.below(self.sizes.updates))),
+                None => self.accepted(random),
+            };
+            let Some(record) = next else { break };
+            self.take(&record);
+            records.push(record);
         }
         records
     }
@@ -580,4 +624,37 @@ pub fn case(random: &mut Random) -> Case {
         }
     }
     Case { text, records: if as_records { Some(records) } else { None } }
+}
+
+/// A case for the writer: one of those above, or a sound plan with entries that are all accepted, as lines or as
+/// records, whose unused numbers could be taken for counts. In some there is one card, which takes long runs of steps.
+pub fn case_to_write(random: &mut Random) -> Case {
+    if random.one_in(2) {
+        return case(random);
+    }
+    let one_card = random.one_in(6);
+    let sizes = if one_card { Sizes::of_one_card(random) } else { Sizes::new(random) };
+    let text = text_of(&plan_lines(random, &sizes));
+    let Ok(plan) = plain::read(&text, false) else { panic!("a plan made to be sound is refused") };
+    let long = one_card && random.one_in(3);
+    let count = if long { random.between(1_000, 4_000) } else { entry_count(random).min(4_000) };
+    let records = Scheduler::new(random, &sizes, &plan).accepted_schedule(random, count, one_card);
+    let [as_text, as_records] = said_otherwise(random, &text, &records);
+    if random.one_in(2) {
+        as_text
+    } else {
+        as_records
+    }
+}
+
+/// A plan's text and accepted entries as a text, their steps joined in some way, and as records, their unused numbers
+/// any.
+pub fn said_otherwise(random: &mut Random, plan: &[u8], entries: &[Record]) -> [Case; 2] {
+    let text = [plan, &text_of(&entry_lines(random, entries))].concat();
+    let mut records = entries.to_vec();
+    for record in records.iter_mut().filter(|record| record.kind == 1) {
+        let any = random.next() as u32;
+        record.second = random.of(&[0, 1, 2, 3, 4_000, any]);
+    }
+    [Case { text, records: None }, Case { text: plan.to_vec(), records: Some(records) }]
 }

@@ -5,35 +5,38 @@
 // rustc -O compare/main.rs -L target/staticlib -l static=public_point_memory -o target/compare && target/compare
 //
 // A case is a text, or a plan's text and records, with a lent buffer of some room. Both checks are asked of the text,
-// and it is run; the answers have to be the same, and so has every byte of the buffer and beside it. The cases are
-// shared by two threads, whose stacks are as long as include/point_memory.h asks for. Printed are the counts of cases
-// and differences, and how often runs of steps, each number, each order of judgement about 17 and each late store were
-// met. The status is 1 where something differs or was hardly met. The first case that differs is then in
-// target/difference.txt, and `target/compare NUMBER` runs it alone.
+// and it is run; the answers have to be the same, and so has every byte of the buffer and beside it. More cases are for
+// the writer (writing.rs). All are shared by two threads, whose stacks are as long as include/point_memory.h asks for.
+// Printed are the counts of cases and differences, how often runs of steps, each number, each order of judgement about
+// 17 and each late store were met, and what the writer met. The status is 1 where something differs or was hardly met.
+// The first case that differs is then in target/difference.txt, and `target/compare NUMBER` runs it alone.
 
 mod cases;
 #[path = "../bench/library.rs"]
 mod library;
 #[path = "../bench/plain.rs"]
 mod plain;
+mod writing;
 
 use cases::{Case, Random};
 use plain::{Answer, Ended, Late};
 use std::thread;
 
-/// The cases, and the threads that share them.
+/// The cases, those for the writer, which are numbered on, and the threads that share them.
 const CASES: u64 = 200_000;
+const CASES_TO_WRITE: u64 = 100_000;
 const THREADS: u64 = 2;
 
 /// The stack of each thread.
 const STACK: usize = 256 * 1024;
 
 /// In how many cases each number, each order about 17 and each late store has to be met, and in how many runs of steps,
-/// their 16, and 17.
+/// their 16, 17, and each thing that the writer can show.
 const OFTEN: usize = 100;
 const MORE_OFTEN: usize = 500;
 
-/// The length of a buffer that is enough for every report, and the bytes kept on both sides of a lent one.
+/// The length of a buffer that is enough for every report and every text, and the bytes kept on both sides of a lent
+/// one.
 const ROOM: usize = 80_000;
 const MARGIN: usize = 16;
 
@@ -170,7 +173,7 @@ fn order_shown(text: &[u8], answer: Answer) -> Option<usize> {
     }
 }
 
-/// The room to lend for a report of a length: none, too little, exactly as much, or more.
+/// The room to lend for a report or a text of a length: none, too little, exactly as much, or more.
 fn room(random: &mut Random, length: usize) -> usize {
     match random.below(16) {
         0 => 0,
@@ -264,38 +267,48 @@ fn compare(number: u64, ample: &mut [u8], tally: &mut Tally) {
     add_all(&mut tally.late_cases, &late.map(|times| times.min(1)));
 }
 
-/// Compares the cases from the first to before the end that fall to one thread.
-fn compare_some(first: u64, end: u64) -> Tally {
+/// Compares the cases from the first to before the end that fall to one thread: those that are run, and those that are
+/// written.
+fn compare_some(first: u64, end: u64) -> (Tally, writing::Tally) {
     let mut ample = vec![0; ROOM];
-    let mut tally = Tally::default();
+    let (mut ran, mut written) = (Tally::default(), writing::Tally::default());
     for number in (first..end).step_by(THREADS as usize) {
-        compare(number, &mut ample, &mut tally);
+        if number < CASES {
+            compare(number, &mut ample, &mut ran);
+        } else {
+            writing::compare(number, &mut written);
+        }
     }
-    tally
+    (ran, written)
 }
 
 /// Compares all cases, or one by its number.
 fn main() {
     let alone: Option<u64> = std::env::args().nth(1).map(|number| number.parse().expect("a case's number"));
-    let (first, end) = alone.map_or((0, CASES), |number| (number, number + 1));
+    let (first, end) = alone.map_or((0, CASES + CASES_TO_WRITE), |number| (number, number + 1));
     let mut threads = Vec::new();
     for thread in 0..THREADS {
         let builder = thread::Builder::new().stack_size(STACK);
         threads.push(builder.spawn(move || compare_some(first + thread, end)).expect("a thread"));
     }
-    let mut tally = Tally::default();
+    let (mut ran, mut written) = (Tally::default(), writing::Tally::default());
     for thread in threads {
-        tally.add(thread.join().expect("a thread's tally"));
+        let (ran_there, written_there) = thread.join().expect("a thread's tallies");
+        ran.add(ran_there);
+        written.add(written_there);
     }
-    tally.print();
-    let enough = alone.is_some() || tally.is_enough();
+    ran.print();
+    println!();
+    written.print();
+    let enough = alone.is_some() || ran.is_enough() && written.is_enough();
     if !enough {
         println!("\nA number, an order about 17 or a late store was met in fewer than {OFTEN} cases,");
-        println!("or runs of steps, 16 or 17 in fewer than {MORE_OFTEN}.");
+        println!("or runs of steps, 16, 17 or what the writer can show in fewer than {MORE_OFTEN}.");
     }
-    if let Some((number, how)) = &tally.first {
+    if let Some((number, how)) = ran.first.as_ref().or(written.first.as_ref()) {
         println!("\nCase {number} differs: see target/difference.txt.");
         std::fs::write("target/difference.txt", how).expect("target/difference.txt, from the project's root");
     }
-    std::process::exit(if tally.differences == 0 && enough { 0 } else { 1 });
+    let same = ran.differences + written.differences == 0;
+    std::process::exit(if same && enough { 0 } else { 1 });
 }

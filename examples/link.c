@@ -1,6 +1,7 @@
 /*
  * Links the library from C: checks and runs a text, runs the same schedule as records beside the plan's text, and
- * prints both reports. The status is 0 only if every answer is what the documents say. From the project's root:
+ * writes the one text for either. It prints the reports and the texts. The status is 0 only if every answer is what the
+ * documents say. From the project's root:
  *
  * rt staticlib public_point_memory
  * cc -std=c99 -O2 -I include examples/link.c -L target/staticlib -l:libpublic_point_memory.a -o target/link_c
@@ -19,12 +20,12 @@ static const char plan[] = "plan\t1\t1\t1\t1\t1\n"
                            "update\t0\n"
                            "add\t0\t0\t2\n";
 
-/* Prints how a run ended and its report; answers whether they are the expected ones. */
-static int shown(const char *way, point_memory_ended ended, const uint8_t *buffer, size_t line, const char *report) {
-    printf("%s: number %zu, line %zu, report of %zu bytes\n", way, ended.number, ended.line, ended.length);
+/* Prints how a run or a writing ended, and its report or text; answers whether they are the expected ones. */
+static int shown(const char *way, point_memory_ended ended, const uint8_t *buffer, size_t line, const char *expected) {
+    printf("%s: number %zu, line %zu, %zu bytes\n", way, ended.number, ended.line, ended.length);
     fwrite(buffer, 1, ended.length, stdout);
-    return ended.number == 0 && ended.line == line && ended.length == strlen(report) &&
-           memcmp(buffer, report, ended.length) == 0;
+    return ended.number == 0 && ended.line == line && ended.length == strlen(expected) &&
+           memcmp(buffer, expected, ended.length) == 0;
 }
 
 /* Prints what a check answers; answers whether it is the expected one. */
@@ -37,7 +38,8 @@ int main(void) {
     static uint8_t buffer[POINT_MEMORY_REPORT_ROOM];
     point_memory_entry records[1 + STEPS] = {{POINT_MEMORY_CALL, 0, 0}};
     char text[sizeof plan + sizeof "call\t0\t0\n" + STEPS * sizeof "step\t0\n"];
-    int accepted, plan_alone, as_text, as_records, i;
+    char one_text[sizeof text];
+    int accepted, plan_alone, as_text, as_records, text_written, records_written, i;
 
     /* The schedule: one call, then the steps in which it is carried out and returns. */
     strcpy(text, plan);
@@ -56,5 +58,16 @@ int main(void) {
                        point_memory_run_schedule((const uint8_t *)plan, strlen(plan), records, 1 + STEPS, buffer,
                                                  sizeof buffer),
                        buffer, 34, "commit\t29\t0\t0\nblock\t7\nend\t0\t34\n");
-    return accepted && plan_alone && as_text && as_records ? 0 : 1;
+
+    /* Both are written alike, with the steps joined. The line that is answered is the run's. */
+    strcpy(one_text, plan);
+    strcat(one_text, "call\t0\t0\nstep\t0\t33\n");
+    text_written = shown("text written",
+                         point_memory_write((const uint8_t *)text, strlen(text), buffer, sizeof buffer), buffer, 39,
+                         one_text);
+    records_written = shown("records written",
+                            point_memory_write_schedule((const uint8_t *)plan, strlen(plan), records, 1 + STEPS, buffer,
+                                                        sizeof buffer),
+                            buffer, 34, one_text);
+    return accepted && plan_alone && as_text && as_records && text_written && records_written ? 0 : 1;
 }

@@ -1,5 +1,6 @@
-// Links the library from Rust: runs a text, then the same schedule as records beside the plan's text, and prints both
-// reports. The status is 0 only if they are what the documents say. From the project's root:
+// Links the library from Rust: runs a text, then the same schedule as records beside the plan's text, and writes the
+// one text for either. It prints the reports and the texts. The status is 0 only if they are what the documents say.
+// From the project's root:
 //
 // rt staticlib public_point_memory
 // rustc -O examples/link.rs -L target/staticlib -l static=public_point_memory -o target/link_rs && target/link_rs
@@ -10,7 +11,7 @@ const PLAN: &str = "plan\t1\t1\t1\t1\t1\njob\t0\t0\nblock\t5\nupdate\t0\nadd\t0\
 /// The steps in which the call is carried out and returns.
 const STEPS: usize = 33;
 
-/// How a run ended: point_memory_ended of include/point_memory.h.
+/// How a run or a writing ended: point_memory_ended of include/point_memory.h.
 #[repr(C)]
 struct Ended {
     number: usize,
@@ -37,6 +38,15 @@ extern "C" {
         buffer: *mut u8,
         buffer_length: usize,
     ) -> Ended;
+    fn point_memory_write(text: *const u8, text_length: usize, buffer: *mut u8, buffer_length: usize) -> Ended;
+    fn point_memory_write_schedule(
+        text: *const u8,
+        text_length: usize,
+        records: *const Entry,
+        count: usize,
+        buffer: *mut u8,
+        buffer_length: usize,
+    ) -> Ended;
 }
 
 /// Runs a text. The pointers and lengths are those of slices that live through the call.
@@ -50,12 +60,23 @@ fn run_schedule(text: &[u8], records: &[Entry], buffer: &mut [u8]) -> Ended {
     unsafe { point_memory_run_schedule(plan, text.len(), entries, records.len(), buffer.as_mut_ptr(), room) }
 }
 
-/// Prints how a run ended and its report; answers whether they are the expected ones.
+/// Writes the one text for a text, with slices likewise.
+fn write(text: &[u8], buffer: &mut [u8]) -> Ended {
+    unsafe { point_memory_write(text.as_ptr(), text.len(), buffer.as_mut_ptr(), buffer.len()) }
+}
+
+/// Writes the one text for records beside a plan's text, with slices likewise.
+fn write_schedule(text: &[u8], records: &[Entry], buffer: &mut [u8]) -> Ended {
+    let (plan, entries, room) = (text.as_ptr(), records.as_ptr(), buffer.len());
+    unsafe { point_memory_write_schedule(plan, text.len(), entries, records.len(), buffer.as_mut_ptr(), room) }
+}
+
+/// Prints how a run or a writing ended, and its report or text; answers whether they are the expected ones.
 fn shown(way: &str, ended: Ended, buffer: &[u8], line: usize, expected: &str) -> bool {
-    let report = &buffer[..ended.length];
-    println!("{way}: number {}, line {}, report of {} bytes", ended.number, ended.line, ended.length);
-    print!("{}", String::from_utf8_lossy(report));
-    ended.number == 0 && ended.line == line && report == expected.as_bytes()
+    let written = &buffer[..ended.length];
+    println!("{way}: number {}, line {}, {} bytes", ended.number, ended.line, ended.length);
+    print!("{}", String::from_utf8_lossy(written));
+    ended.number == 0 && ended.line == line && written == expected.as_bytes()
 }
 
 fn main() {
@@ -70,5 +91,12 @@ fn main() {
     let ended = run_schedule(PLAN.as_bytes(), &records, &mut buffer);
     let as_records = shown("records", ended, &buffer, 34, "commit\t29\t0\t0\nblock\t7\nend\t0\t34\n");
 
-    std::process::exit(if as_text && as_records { 0 } else { 1 });
+    // Both are written alike, with the steps joined. The line that is answered is the run's.
+    let one_text = format!("{PLAN}call\t0\t0\nstep\t0\t{STEPS}\n");
+    let ended = write(text.as_bytes(), &mut buffer);
+    let text_written = shown("text written", ended, &buffer, 39, &one_text);
+    let ended = write_schedule(PLAN.as_bytes(), &records, &mut buffer);
+    let records_written = shown("records written", ended, &buffer, 34, &one_text);
+
+    std::process::exit(if as_text && as_records && text_written && records_written { 0 } else { 1 });
 }

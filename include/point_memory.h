@@ -1,9 +1,9 @@
 /*
- * The point memory machine for C (C99 and later) and C++: check a text, run a text, run a schedule of records.
- * `rt staticlib public_point_memory` builds the library, target/staticlib/libpublic_point_memory.a; examples/link.c
- * shows how it is linked. Every function is proved to answer what the definitions say that are written from document
- * 01 and the first two requests of document 02, for all bytes, records and lengths handed in; docs/TRUST.md says what
- * that rests on.
+ * The point memory machine for C (C99 and later) and C++: check a text, run a text, run a schedule of records, write
+ * the one text for either. `rt staticlib public_point_memory` builds the library,
+ * target/staticlib/libpublic_point_memory.a; examples/link.c shows how it is linked. Every function is proved to answer
+ * what the definitions say that are written from document 01 and the first three requests of document 02, for all
+ * bytes, records and lengths handed in; docs/TRUST.md says what that rests on.
  *
  * What a caller must ensure:
  *
@@ -36,13 +36,13 @@
  *   12  call: job active
  *   13  step: card not below P
  *   14  step: no job active on the card
- *   15  report longer than the buffer (line 0)
+ *   15  report, or text that is to be written, longer than the buffer (line 0)
  *   16  a run `step card n` with n not from 1 to 4,000
  *   17  a line `update n` with n not the next number from 0
  *
  * 1 to 10, 16 and 17 are judged before any entry runs, and leave no report. 11 to 14 stop the run; the report is of the
  * state before that entry, and the line of a step in a run is the run's. 15 is decided last, and leaves the buffer
- * untouched. Lines, and places of records, count from 1.
+ * untouched. Where something is refused no text is written. Lines, and places of records, count from 1.
  */
 #ifndef POINT_MEMORY_H
 #define POINT_MEMORY_H
@@ -54,7 +54,8 @@
 extern "C" {
 #endif
 
-/* A buffer of so many bytes is long enough for every report: it is proved that none is longer than 75,101 bytes. */
+/* A buffer of so many bytes is long enough for every report: it is proved that none is longer than 75,101 bytes. It is
+   long enough for every text that is written, too: none is longer than a text may be. */
 #define POINT_MEMORY_REPORT_ROOM 80000
 
 /* What a check answers: a number, 0 to 10, 16 or 17, and its line. */
@@ -63,8 +64,8 @@ typedef struct {
     size_t line;
 } point_memory_answer;
 
-/* What a run answers: a number from 0 to 17, its line or the record's place, and the length of the report, which stands
-   in the first bytes of the buffer; 0 where none is written. */
+/* What a run or the writer answers: a number from 0 to 17, its line or the record's place, and the length of the report
+   or of the text, which stands in the first bytes of the buffer; 0 where none is written. */
 typedef struct {
     size_t number;
     size_t line;
@@ -98,6 +99,22 @@ point_memory_ended point_memory_run(
    records give 5 at place 4,001, else the first record of another kind gives 3 at its place, both without a report. For
    these and for 11 to 14 the line is the record's place; acceptance gives the count of records. */
 point_memory_ended point_memory_run_schedule(
+    const uint8_t *text, size_t text_length, const point_memory_entry *records, size_t count, uint8_t *buffer,
+    size_t buffer_length);
+
+/* Checks a text, runs its entries, and writes the one text for its plan and entries into the first bytes of the buffer:
+   the lines in their order, steps of one card that follow each other joined into the longest runs, a run of one without
+   a count. It has the same plan and the same single entries, and its report is the text's but for the line in `end`;
+   texts that agree in plan and single entries are written alike. A refused text or entry gives its number and line,
+   however short the buffer is; else 15 is a buffer shorter than what is to be written. Both leave the whole buffer as
+   it was, and the length is 0. Acceptance gives the count of the lines read, and the bytes past what is written keep
+   what they held. */
+point_memory_ended point_memory_write(
+    const uint8_t *text, size_t text_length, uint8_t *buffer, size_t buffer_length);
+
+/* The same for a plan's text with the entries as records, which are refused as in point_memory_run_schedule. A step's
+   `second` is not in what is written. Acceptance gives the count of records. */
+point_memory_ended point_memory_write_schedule(
     const uint8_t *text, size_t text_length, const point_memory_entry *records, size_t count, uint8_t *buffer,
     size_t buffer_length);
 

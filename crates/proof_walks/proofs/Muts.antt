@@ -12,6 +12,7 @@
 --     comes-back        [†ν] ∗ Kept ∗ fins  ⊢ ⇛ Sames, and own at ι at the last values ∗ [ι]_q
 --     ends              own at the last values  ⊢  fins
 --     Shown, shows-again, unshown   one `&mut` is lent again as a `&`, and comes back as it was
+--     array-long        own of a `&mut [T; n]` ∗ [ι]_q  ⊢ ⇛ the array has n elements, and both are had still
 -- Assumes `Given`.
 use mathlib.Core.Path.{_≡_, refl, sym}
 use Prim.Native.Nat.{ℕ}
@@ -32,10 +33,12 @@ use types.SemTy.{Body}
 use types.Mut.{open-ref, close-ref}
 use types.Tokens.{lent-back}
 use denote.RattleType.{RattleType}
-use denote.Laws.{Ises, Spells, Tellss}
+use denote.Array.{Array}
+use denote.Laws.{Is, Ises, Spells, Tellss, shows}
 use denote.Memory.{mem, partAt}
 use denote.Ref.{RefT, ptr, name, now, at-last, MutRef, ShrRef, ptr-vals, mut-tells}
 use denote.Slice.{sliceVal, MutSlice, Room, finally, res-finally, codedHoleys, heres, slice-vals, mut-slice-tells}
+use denote.Steps.{opens, closes, peeks}
 use denote.Lend as one
 use denote.Lend.{lends-shr}
 use Rattle.proof_walks.proofs.Again as row
@@ -270,3 +273,18 @@ module _ {M : Type 1} (𝓤 : URA M) (H : Heap 𝓤) (A : Atoms 𝓤) (W : Given
       qed W (‵ (fdead ν) ∷ ‵ shown ∷ []) ∵ updating ! $ move ! (1 ∷ []) $ fsplit ! $ move ! (2 ∷ 0 ∷ []) $
       lent-back ! tt $ move ! (1 ∷ []) $ fsplit3 ! $ move ! (3 ∷ 0 ∷ 1 ∷ 2 ∷ []) $ close-ref ! tt (mem R) (now x) $
       at-once ! $ feqI ! (List Val) (ptr-vals x) (ptr-vals x) refl $ fjoin3 ! $ frame ! $ done !
+
+-- One `&mut` to an array, looked into for the array's length.
+module _ {M : Type 1} (𝓤 : URA M) (H : Heap 𝓤) (A : Atoms 𝓤) (W : Given 𝓤 H A) (S : RattleType) (n : ℕ) (ℓ : Lifetime)
+    (ι : Lft) (q : Share) (x : RefT (List (S .Denot))) where
+  abbrev own-array : Fml
+  own-array = MutRef ℓ ι (Array S n) .own x (ptr-vals x)
+
+  pub array-long : ent 𝓤 (sep 𝓤 (sem 𝓤 H A own-array) (A .lft ι q))
+      (H .⇛ (guard 𝓤 (length (now x) ≡ n) (sep 𝓤 (sem 𝓤 H A own-array) (A .lft ι q))))
+  array-long =
+      qed W (‵ own-array ∷ ‵ (flft ι q) ∷ []) ∵ updating ! $ fsplit3 ! $ feqL ! (λ _.
+      opens ! tt (Array S n) (ptr x .0) (ptr x .1) (λ vs. move ! (1 ∷ []) $
+      peeks ! (Array S n) (Is (Array S n)) (shows 𝓤 H A (Array S n)) (now x) vs (λ is. move ! (1 ∷ []) $
+      closes ! tt (Array S n) (now x) vs (ptr x .0) (ptr x .1) $ at-once ! $ check ! (is .1 .0 .1) $
+      feqI ! (List Val) (ptr-vals x) (ptr-vals x) refl $ fjoin3 ! $ frame ! $ done !)))

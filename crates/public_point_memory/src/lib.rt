@@ -3,9 +3,11 @@
 ghost use mathlib.Core.Path.{_≡_};
 ghost use Rattle.spec_format.specs.Reading.{reading, verdictOf};
 ghost use Rattle.spec_report.specs.Outcomes.{runText, runSchedule, left};
+ghost use Rattle.spec_plan_text.specs.Writing.{writeText, writeSchedule};
 ghost use Rattle.report_ending.specs.Finishing.{endedOf};
 ghost use Rattle.public_reference.specs.Answers.{answerOf};
 use public_reference::Answer;
+use read_tables::NOTE_PLACES;
 use read_tables::PLAN_PLACES;
 use report_ending::Ended;
 use spec_format::Entry;
@@ -93,4 +95,34 @@ pub extern "C" fn point_memory_run_schedule(
         &commits,
         buffer,
     )
+}
+
+// Writes a text: see public_writer::write.
+#[no_mangle]
+pub extern "C" fn point_memory_write(text: &[u8], buffer: &mut [u8]) -> Ended
+    ensures { λ r. ⌜ r ≡ endedOf (writeText (now (text .entry))) (now (buffer .entry)) ⌝ }
+    ensures { λ _. ⌜ now (buffer .exit) ≡ left (writeText (now (text .entry))) (now (buffer .entry)) ⌝ }
+{
+    public_writer::write(text, buffer)
+}
+
+// Writes the one text of a plan's text with records: the records are noted as a text's entry lines are, and the text
+// is written from the notes. It stands in the first places of the lent buffer; what lies behind it stays as it was, and
+// where no text is written all of it does.
+#[no_mangle]
+pub extern "C" fn point_memory_write_schedule(
+    text: &[u8],
+    records: &[Entry],
+    buffer: &mut [u8],
+) -> Ended
+    ensures { λ r. ⌜ r
+        ≡ endedOf (writeSchedule (now (text .entry)) (now (records .entry))) (now (buffer .entry)) ⌝ }
+    ensures { λ _. ⌜ now (buffer .exit)
+        ≡ left (writeSchedule (now (text .entry)) (now (records .entry))) (now (buffer .entry)) ⌝ }
+{
+    let mut plan = [0u32; PLAN_PLACES];
+    let mut notes = [0u32; NOTE_PLACES];
+    let verdict = whole_records_start::read_lent(text, &mut plan, &mut notes);
+    let count = read_records::note_records(records, &mut notes);
+    whole_written_records::write_noted(verdict, count, &plan, &mut notes, buffer)
 }

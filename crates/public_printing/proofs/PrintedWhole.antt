@@ -1,51 +1,34 @@
--- What is printed of a run and of a check, from what the code has: no report is too long for the buffer, so that 15 is
--- not met, and every number is small. Assumes nothing.
+-- What is printed of an outcome that was written out, and of a check, from what the code has: the buffer has room, so
+-- that 15 is not met, and every number is small. Assumes nothing.
 use Prim.Native.Nat.{ℕ, _≤_, _<_}
 use mathlib.Core.Path.{_≡_, refl, sym, ap, subst, _∙_}
-use mathlib.Core.List.{List, map}
+use mathlib.Core.List.{List}
 use native.Mathlib.Nat.{zero-add}
 use native.Mathlib.Omega.{arith}
 use borrow.Author.Tests.{le-leb}
-use lib.ListN.{length, length-map}
+use lib.ListN.{length}
 use Rattle.spec_text.specs.FirstPlaces.{inFirstPlaces}
 use Rattle.io.specs.Counts.{Counts}
-use Rattle.spec_format.specs.declared.Entry.{Entry}
 use Rattle.spec_format.specs.declared.Form.{Form}
 use Rattle.spec_format.specs.declared.Verdict.{Verdict}
-use Rattle.spec_format.specs.Plan.{Listed}
 use Rattle.spec_format.specs.Reading.{Reading, refusal, accepted, reading, verdictOf}
-use Rattle.spec_format.proofs.Sound.{accepted-sound, accepted-few}
-use Rattle.spec_format.proofs.LineCounts.{low-count, low-lines, low-refused}
-use Rattle.spec_machine.specs.History.{runOf}
-use Rattle.spec_machine.proofs.EveryRun.{always}
+use Rattle.spec_format.proofs.LineCounts.{low-count, low-refused}
 use Rattle.spec_report.specs.declared.End.{End}
 use Rattle.spec_report.specs.Report.{largestNumber, endNumber, endLine, endEntry, reportEnd}
-use Rattle.spec_report.specs.Outcomes.{
-  Outcome,
-  refused,
-  written,
-  endWith,
-  handed,
-  left,
-  ofReading,
-  runText,
-  printed,
-}
-use Rattle.spec_report.proofs.Ends.{end-low, entry-low}
-use Rattle.spec_report_length.specs.Longest.{longestEnd, longestReport}
+use Rattle.spec_report.specs.Outcomes.{Outcome, refused, written, endWith, handed, left, printed}
+use Rattle.spec_report_length.specs.Longest.{longestEnd}
 use Rattle.spec_report_length.proofs.LineLengths.{end-number, end-short}
-use Rattle.spec_report_length.proofs.Short.{printed-short, printed-some}
 use Rattle.report_bytes.specs.Writes.{Writes}
 use Rattle.report_bytes.proofs.Writes.{put-whole, counts, renamed}
 use Rattle.report_lines.specs.ReportLines.{endBytes}
 use Rattle.report_ending.specs.declared.WrittenEnd.{WrittenEnd}
-use Rattle.report_ending.specs.Finishing.{WrittenOut}
 use Rattle.public_reference.specs.declared.Answer.{Answer}
 use Rattle.public_reference.specs.Answers.{answerOf}
 use Rattle.public_printing.specs.declared.Printed.{Printed}
-use Rattle.public_printing.specs.Printing.{answered, endOfOutcome, runAnswer, endOfCheck, checkAnswer}
+use Rattle.public_printing.specs.Printing.{answered, endOfOutcome, outcomeAnswer, Finished, endOfCheck}
+use Rattle.public_printing.specs.Printing.{checkAnswer}
 
--- With room for all that is printed a run does not end with 15,
+-- With room for all that is printed nothing ends with 15,
 ended-so : (o : Outcome) (before : List ℕ) → length (printed o) ≤ length before → endWith o before ≡ endOfOutcome o
 unfolding printed
 ended-so (refused e) before short = refl
@@ -67,76 +50,50 @@ last-so (refused e) before short some none = (refl, refl)
 last-so (written e bytes) before short some none =
     absurd (omega (arith, some, rw (le-leb (length bytes) (length before) short) at none))
 
--- The line and the entry of every end are small.
-pub end-small : (text : List ℕ)
-    → (endLine (endOfOutcome (runText text)) ≤ 65537) × (endEntry (endOfOutcome (runText text)) ≤ 4001)
-unfolding runText
-end-small text = go (reading Form.Schedule text) refl
-  where
-    go : (r : Reading) → reading Form.Schedule text ≡ r
-        → (endLine (endOfOutcome (ofReading r)) ≤ 65537) × (endEntry (endOfOutcome (ofReading r)) ≤ 4001)
-    go (refusal f n) e = (low-refused Form.Schedule text f n e, omega arith)
-    go (accepted plan ls n) e =
-        let es : List Entry = map (λ (l : Listed). l .entry) ls in
-        let few = accepted-few Form.Schedule text plan ls n e in
-        let many : length es ≡ length ls = length-map ls (λ (l : Listed). l .entry) in
-        let short : length (runOf plan es .history) ≤ length es =
-        always plan (accepted-sound Form.Schedule text plan ls n e) es .layers .told .short in (
-          end-low (runOf plan es .refusal) _ _ n 65537
-              (omega (arith, low-lines Form.Schedule text plan ls n e (length (runOf plan es .history))))
-              (omega (arith, low-count Form.Schedule text plan ls n e)),
-          entry-low (runOf plan es .refusal) _ _ n 4001 (omega (arith, few, many, short)),
-        )
-
--- A run of a text that was written out into a buffer with room for every report.
-module _ (text : List ℕ) {before after : List ℕ} {r : WrittenEnd} (long : longestReport ≤ length before)
-    (w : WrittenOut (runText text) before r after) where
-  -- There is room for what is printed.
-  short : length (printed (runText text)) ≤ length before
-  short = omega (arith, long, printed-short text)
-
-  -- Its end is the run's,
-  pub end-is : r .end ≡ endOfOutcome (runText text)
-  end-is = w .end-is ∙ ended-so (runText text) before short
+-- An outcome that was written out into a buffer with room for what is printed of it.
+module _ (o : Outcome) {before after : List ℕ} {r : WrittenEnd} (f : Finished o before r after) where
+  -- Its end is the outcome's,
+  pub end-is : r .end ≡ endOfOutcome o
+  end-is = f .out .end-is ∙ ended-so o before (f .can .short)
 
   -- and its line is small.
   pub line-small : endLine (r .end) ≤ 65537
-  line-small = subst (λ e. endLine e ≤ 65537) (sym end-is) (end-small text .0)
+  line-small = subst (λ e. endLine e ≤ 65537) (sym end-is) (f .can .line)
 
   -- The entry is small too.
   pub entry-small : endEntry (r .end) ≤ 4001
-  entry-small = subst (λ e. endEntry e ≤ 4001) (sym end-is) (end-small text .1)
+  entry-small = subst (λ e. endEntry e ≤ 4001) (sym end-is) (f .can .entry)
 
-  -- Where a report is written, it is what is printed.
-  pub report-printed : 0 < r .length
-      → (answered (r .end) (handed (runText text) before) ≡ runAnswer (runText text))
-      × (Counts (r .length) after × (after ≡ inFirstPlaces (printed (runText text)) before))
+  -- Where bytes are written, they are what is printed.
+  pub bytes-printed : 0 < r .length
+      → (answered (r .end) (handed o before) ≡ outcomeAnswer o)
+      × (Counts (r .length) after × (after ≡ inFirstPlaces (printed o) before))
   unfolding left
-  report-printed some =
-      let so : handed (runText text) before ≡ printed (runText text) =
-      handed-so (runText text) before short (omega (arith, some, w .length-is)) in
-      let first = w .left-is ∙ ap (λ bs. inFirstPlaces bs before) so in (
-        ap (λ e. answered e (handed (runText text) before)) end-is ∙ ap (answered (endOfOutcome (runText text))) so,
-        (counts (printed (runText text)) before (w .length-is ∙ ap length so) first, first),
+  bytes-printed some =
+      let so : handed o before ≡ printed o =
+      handed-so o before (f .can .short) (omega (arith, some, f .out .length-is)) in
+      let first = f .out .left-is ∙ ap (λ bs. inFirstPlaces bs before) so in (
+        ap (λ e. answered e (handed o before)) end-is ∙ ap (answered (endOfOutcome o)) so,
+        (counts (printed o) before (f .out .length-is ∙ ap length so) first, first),
       )
 
-  -- Where none is, the last line is.
+  -- Where none are, the last line is.
   pub last-printed : r .length ≤ 0 → {next : ℕ} {after′ : List ℕ}
       → Writes (reportEnd (r .end)) 40 0 after next after′
-      → (answered (r .end) (reportEnd (r .end)) ≡ runAnswer (runText text))
+      → (answered (r .end) (reportEnd (r .end)) ≡ outcomeAnswer o)
       × ((next ≡ length (reportEnd (r .end)))
-      × (Counts next after′ × (after′ ≡ inFirstPlaces (printed (runText text)) before)))
+      × (Counts next after′ × (after′ ≡ inFirstPlaces (printed o) before)))
   last-printed none {next} {after′} v =
-      let so = last-so (runText text) before short (printed-some text) (omega (arith, none, w .length-is)) in
-      let same : after ≡ before = w .left-is ∙ so .0 in
-      let line : reportEnd (r .end) ≡ printed (runText text) = ap reportEnd end-is ∙ sym (so .1) in
-      let v′ : Writes (printed (runText text)) 40 0 before next after′ =
+      let so = last-so o before (f .can .short) (f .can .some) (omega (arith, none, f .out .length-is)) in
+      let same : after ≡ before = f .out .left-is ∙ so .0 in
+      let line : reportEnd (r .end) ≡ printed o = ap reportEnd end-is ∙ sym (so .1) in
+      let v′ : Writes (printed o) 40 0 before next after′ =
       subst (λ l. Writes l 40 0 before next after′) line
       (subst (λ b. Writes (reportEnd (r .end)) 40 0 b next after′) same v)
       in
-      let first = v′ .after-is ∙ put-whole before (printed (runText text)) short in (
-        ap (λ e. answered e (reportEnd (r .end))) end-is ∙ ap (answered (endOfOutcome (runText text))) line,
-        (v .next-is ∙ zero-add _, (counts (printed (runText text)) before (v′ .next-is ∙ zero-add _) first, first)),
+      let first = v′ .after-is ∙ put-whole before (printed o) (f .can .short) in (
+        ap (λ e. answered e (reportEnd (r .end))) end-is ∙ ap (answered (endOfOutcome o)) line,
+        (v .next-is ∙ zero-add _, (counts (printed o) before (v′ .next-is ∙ zero-add _) first, first)),
       )
 
 -- A check has the number and the line of its end.

@@ -10,10 +10,9 @@ use lib.ListN.{length, getD, take, set, replicate, length-append, length-replica
 use lib.ListN.{List·getD-append, List·getD-map}
 use lib.Seq.{take-suc-set, getD-append-add}
 use Rattle.spec_format.specs.declared.Entry.{Entry}
-use Rattle.spec_format.specs.Plan.{Listed}
+use Rattle.spec_format.specs.Plan.{Listed, entriesIn}
 use Rattle.spec_report.specs.Outcomes.{lineIn}
 use Rattle.read_tables.specs.NoteTable.{noteAt, singles, listedIn}
-use Rattle.read_single_entries.specs.EntriesAlone.{entriesIn}
 
 -- One more note has as many single entries more as its entry comes.
 pub one-more : (t : List ℕ) (i : ℕ) → length (listedIn (i + 1) t) ≡ length (listedIn i t) + noteAt t i .times

@@ -1,2 +1,2 @@
--- The single entries of a text without their lines.
-pub mod EntriesAlone
+-- How many notes and single entries a table holds.
+pub mod Holding

@@ -4,7 +4,7 @@ ghost use Prim.Native.Nat.{_≤_};
 ghost use lib.ListN.{length, take};
 ghost use Rattle.spec_report.specs.Outcomes.{lineIn};
 ghost use Rattle.read_tables.specs.NoteTable.{listedIn};
-ghost use Rattle.read_single_entries.specs.EntriesAlone.{entriesIn};
+ghost use Rattle.spec_format.specs.Plan.{entriesIn};
 use read_tables::NOTE_PLACES;
 use spec_format::Entry;
 

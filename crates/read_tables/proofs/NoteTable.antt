@@ -1,4 +1,4 @@
--- The table of notes after a put. Assumes nothing.
+-- The table of notes after a put: the note that was put, the others, and the single entries. Assumes nothing.
 use Prim.Native.Nat.{ℕ, zero, suc, _+_, _<_}
 use mathlib.Core.Path.{_≡_, refl, _∙_, ap}
 use mathlib.Core.Logic.{inl}
@@ -32,13 +32,16 @@ listed-same zero e e′ same = refl
 listed-same (suc n) e e′ same =
     λ k. listed-same n e e′ (λ i l. same i (omega arith)) k ++ singles (same n (omega arith) k)
 
--- One more note.
-pub notes-more : {e e′ : List ℕ} (i : ℕ) (n : Note) → i < 4000 → length e ≡ notePlaces
-    → Put (noteStart i) (placesOf n) e e′ → listedIn (i + 1) e′ ≡ listedIn i e ++ singles n
-notes-more {e} {e′} i n few room p =
-    let before : listedIn i e′ ≡ listedIn i e =
-    listed-same i e e′ (λ k less. note-same k (outside p (noteStart k) (noteStart k + 5) (inl (omega arith)))) in
-    ap (λ k. listedIn k e′) (add-one i) ∙ (λ k. before k ++ singles (here k))
+-- The note that was put.
+pub note-put : {e e′ : List ℕ} (i : ℕ) (n : Note) → i < 4000 → length e ≡ notePlaces
+    → Put (noteStart i) (placesOf n) e e′ → noteAt e′ i ≡ n
+note-put {e} {e′} i n few room p =
+    λ k.
+    record {
+      entry = record { kind = kind k; first = first k; second = second k };
+      times = times k;
+      line = line k;
+    }
   where
     kind : getD e′ (noteStart i) 0 ≡ n .entry .kind
     kind = let start : noteStart i + 0 ≡ noteStart i = add-zero (noteStart i) in
@@ -56,11 +59,15 @@ notes-more {e} {e′} i n few room p =
     line : getD e′ (noteStart i + 4) 0 ≡ n .line
     line = p .there (omega arith) 4 (omega arith)
 
-    here : noteAt e′ i ≡ n
-    here =
-        λ k.
-        record {
-          entry = record { kind = kind k; first = first k; second = second k };
-          times = times k;
-          line = line k;
-        }
+-- The notes before it stay.
+pub notes-before : {e e′ : List ℕ} (i k : ℕ) (n : Note) → k < i → Put (noteStart i) (placesOf n) e e′
+    → noteAt e′ k ≡ noteAt e k
+notes-before i k n less p = note-same k (outside p (noteStart k) (noteStart k + 5) (inl (omega arith)))
+
+-- One more note.
+pub notes-more : {e e′ : List ℕ} (i : ℕ) (n : Note) → i < 4000 → length e ≡ notePlaces
+    → Put (noteStart i) (placesOf n) e e′ → listedIn (i + 1) e′ ≡ listedIn i e ++ singles n
+notes-more {e} {e′} i n few room p =
+    let before : listedIn i e′ ≡ listedIn i e = listed-same i e e′ (λ k less. notes-before i k n less p) in
+    let here : noteAt e′ i ≡ n = note-put i n few room p in
+    ap (λ k. listedIn k e′) (add-one i) ∙ (λ k. before k ++ singles (here k))

@@ -9,6 +9,7 @@ ghost use Rattle.read_tables.specs.Puts.{Put};
 ghost use Rattle.read_tables.specs.PlanTable.{planPlaces, updatesAt, cardsAt, prioritiesAt, countsAt, moveStart};
 ghost use Rattle.read_tables.specs.PlanTable.{sizesIn, updatesIn, jobAt, countAt, wordAt, kindAt, targetAt};
 ghost use Rattle.read_tables.specs.PlanTable.{sourceAt, amountAt, codeOf, sourceOf, amountOf, numbersOf};
+ghost use Rattle.read_tables.specs.PlanTable.{moveOf, moveAt};
 ghost use Rattle.read_tables.specs.NoteTable.{noteStart, placesOf, noteAt};
 use spec_format::Entry;
 use spec_format::Move;
@@ -187,6 +188,32 @@ pub fn amount(plan: &[u32; PLAN_PLACES], m: usize) -> u32
     get(plan, MOVES + MOVE * m + 3)
 }
 
+// The move that stands in a table as these numbers.
+fn move_of(kind: u32, target: u32, source: u32, amount: u32) -> Move
+    ensures { λ r. ⌜ r ≡ moveOf kind target source amount ⌝ }
+{
+    if kind == 0 {
+        return Move::Copy(target, source);
+    }
+    if kind == 1 {
+        return Move::Set(target, amount);
+    }
+    Move::Add(target, source, amount)
+}
+
+// Move m.
+pub fn move_at(plan: &[u32; PLAN_PLACES], m: usize) -> Move
+    requires { ⌜ m < 512 ⌝ }
+    ensures { λ r. ⌜ r ≡ moveAt (now (plan .entry)) m ⌝ }
+{
+    move_of(
+        kind(plan, m),
+        target(plan, m),
+        source(plan, m),
+        amount(plan, m),
+    )
+}
+
 // Puts the count of updates.
 pub fn put_updates(plan: &mut [u32; PLAN_PLACES], n: u32)
     ensures { λ _. ⌜ Put updatesAt (n ∷ []) (now (plan .entry)) (now (plan .exit)) ⌝ }
@@ -312,12 +339,20 @@ pub fn entry_at(notes: &[u32; NOTE_PLACES], i: usize) -> Entry
     }
 }
 
-// How many times the entry of note i comes.
+// How many times the entry of note i comes, as the table has it.
+pub fn count_at(notes: &[u32; NOTE_PLACES], i: usize) -> u32
+    requires { ⌜ i < 4000 ⌝ }
+    ensures { λ r. ⌜ r ≡ noteAt (now (notes .entry)) i .times ⌝ }
+{
+    notes[NOTE * i + 3]
+}
+
+// How many times the entry of note i comes, as a size.
 pub fn times_at(notes: &[u32; NOTE_PLACES], i: usize) -> usize
     requires { ⌜ i < 4000 ⌝ }
     ensures { λ r. ⌜ r ≡ noteAt (now (notes .entry)) i .times ⌝ }
 {
-    wide(notes[NOTE * i + 3])
+    count_at(notes, i) as usize
 }
 
 // The line of note i.

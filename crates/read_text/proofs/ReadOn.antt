@@ -227,7 +227,7 @@ refusing f n = record { verdict = Verdict.Refused f n; notes = 0; entries = 0 }
 
 -- It is right where the text is so refused.
 refuses : {f : Fault} {n : ℕ} {r : Reading} {t e : List ℕ} → refusal f n ≡ r → ReadTo r (refusing f n) t e
-refuses e = record { gives = e; few-notes = omega arith; counted = ap entryCount e }
+refuses e = record { gives = e; few-notes = omega arith; counted = ap entryCount e; whole = tt }
 
 -- A text over the limit.
 over-limit : (form : Form) (text : List ℕ) → 65536 < length text → refusal Fault.TooLong 0 ≡ reading form text
@@ -310,6 +310,7 @@ module _ (form : Form) (text : List ℕ) (c : Cursor) (x : ReadTables) (fits : l
           gives = sym is;
           few-notes = omega (arith, h .ranged .notes-read, h .ranged .entries-read);
           counted = counted ∙ sym (ap entryCount is);
+          whole = here .room;
         }
 
 -- What holds of an answer holds of what it is.

@@ -1,5 +1,4 @@
 // Bytes, numbers and lines written into a lent buffer from a place on, as far as it has room.
-ghost use mathlib.Core.Path.{_≡_};
 ghost use mathlib.Core.List.{[], _∷_, map};
 ghost use Prim.Native.Nat.{_≤_, _<_, _+_, _*_};
 ghost use lib.ListN.{length};
@@ -46,47 +45,13 @@ pub fn put_decimal(buffer: &mut [u8], at: usize, n: u32) -> usize
     put_byte(buffer, next, (48 + n % 10) as u8)
 }
 
-// How many digits a number has.
-fn width(n: u32) -> usize
-    ensures { λ r. ⌜ r ≡ length (decimal n) ⌝ }
-{
-    if n < 10 {
-        return 1;
-    }
-    if n < 100 {
-        return 2;
-    }
-    if n < 1000 {
-        return 3;
-    }
-    if n < 10000 {
-        return 4;
-    }
-    if n < 100000 {
-        return 5;
-    }
-    if n < 1000000 {
-        return 6;
-    }
-    if n < 10000000 {
-        return 7;
-    }
-    if n < 100000000 {
-        return 8;
-    }
-    if n < 1000000000 {
-        return 9;
-    }
-    10
-}
-
 // A number in base ten, whose digits are only counted where there is no room for the first.
 fn put_number(buffer: &mut [u8], at: usize, n: u32) -> usize
     requires { ⌜ at + 10 ≤ 4294967296 ⌝ }
     ensures { λ r. ⌜ Writes (decimal n) 10 at (now (buffer .entry)) r (now (buffer .exit)) ⌝ }
 {
     if buffer.len() <= at {
-        return at + width(n);
+        return at + text_lines::width(n);
     }
     put_decimal(buffer, at, n)
 }

@@ -6,7 +6,6 @@ use mathlib.Core.List.{List}
 use native.Mathlib.Omega.{arith}
 use lib.Dec.{leb}
 use lib.ListN.{length}
-use Rattle.spec_format.specs.declared.Fault.{Fault}
 use Rattle.spec_report.specs.declared.End.{End}
 use Rattle.spec_report.specs.Report.{endNumber, endLine}
 use Rattle.spec_report.specs.Outcomes.{Outcome, refused, written, left}

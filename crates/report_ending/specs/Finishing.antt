@@ -9,7 +9,7 @@ use Rattle.spec_report.specs.Report.{endNumber, endLine}
 use Rattle.report_ending.specs.declared.WrittenEnd.{WrittenEnd}
 use Rattle.report_ending.specs.declared.Ended.{Ended}
 
--- An outcome was written out: how it ended, how long the report is, and what the buffer then holds.
+-- An outcome was written out: how it ended, how many bytes are written, and what the buffer then holds.
 pub record WrittenOut (o : Outcome) (before : List ℕ) (r : WrittenEnd) (after : List ℕ) : Type 0 where
   pub end-is : r .end ≡ endWith o before
   pub length-is : r .length ≡ length (handed o before)
@@ -19,7 +19,7 @@ pub record WrittenOut (o : Outcome) (before : List ℕ) (r : WrittenEnd) (after 
 abbrev pub endedBy : WrittenEnd → Ended
 endedBy f = record { number = endNumber (f .end); line = endLine (f .end); length = f .length }
 
--- The number, the line and the length of the report of an outcome, with a buffer lent.
+-- The number and the line of an outcome, and how many bytes are written, with a buffer lent.
 abbrev pub endedOf : Outcome → List ℕ → Ended
 endedOf o buffer =
     record {

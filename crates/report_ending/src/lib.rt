@@ -16,13 +16,14 @@ use spec_format::Fault;
 use spec_report::End;
 use step_cells::CELL_PLACES;
 
-// How a run ended, and the length of its report, 0 where none is written.
+// How a call ended, and how many bytes it has written: the length of the report, or of a written text.
 pub struct WrittenEnd {
     pub end: End,
     pub length: usize,
 }
 
-// How a run ended: its number in the table with its line, and the length of the report, 0 where none is written.
+// How a call ended: its number in the table with its line, and how many bytes it has written: the length of the report,
+// or of a written text, 0 where nothing is written.
 #[repr(C)]
 pub struct Ended {
     pub number: usize,

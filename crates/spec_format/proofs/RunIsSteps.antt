@@ -72,7 +72,7 @@ front-append b c false [] ms = refl
 front-append b c false (l ∷ ls) ms = refl
 
 -- Where there are no bytes there is no line.
-no-lines : lines [] ≡ []
+pub no-lines : lines [] ≡ []
 unfolding lines
 no-lines = refl
 
@@ -97,11 +97,11 @@ or-plan (some f) m n one other e = refl
 or-plan none m n one other e = e
 
 -- A draft with another count of lines.
-abbrev numbered : ℕ → Draft → Draft
+abbrev pub numbered : ℕ → Draft → Draft
 numbered n d = record { lines = n; blocks = d .blocks; entries = d .entries; plan = d .plan }
 
 -- One more line.
-numbered-after : (m : ℕ) (d : Draft) (x : Option Directive) → after (numbered m d) x ≡ numbered (m + 1) (after d x)
+pub numbered-after : (m : ℕ) (d : Draft) (x : Option Directive) → after (numbered m d) x ≡ numbered (m + 1) (after d x)
 numbered-after m d none = refl
 numbered-after m d (some i) = refl
 
@@ -138,7 +138,7 @@ same-fault :
 same-fault form d m n h l r = rw (same-place form d m n h l (r .kind), same-many d m n (r .directive))
 
 -- nor the plan that lines give.
-same-plan :
+pub same-plan :
     (form : Form) (d : Draft) (m n : ℕ) → 0 < m → 0 < n → (ls : List Line)
     → planOf form (numbered m d) ls ≡ planOf form (numbered n d) ls
 same-plan form d m n h l [] =

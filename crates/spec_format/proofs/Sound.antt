@@ -69,13 +69,13 @@ one-empty (v ∷ us) zero = refl
 one-empty (v ∷ us) (suc u) = one-empty us u
 
 -- What holds of each update holds of the last.
-of-last : (P : List Move → Type 0) (us : List (List Move)) → ((u : ℕ) → P (getD us u [])) → P (lastOf us)
+pub of-last : (P : List Move → Type 0) (us : List (List Move)) → ((u : ℕ) → P (getD us u [])) → P (lastOf us)
 of-last P [] each = each 0
 of-last P (v ∷ []) each = each 0
 of-last P (v ∷ w ∷ us) each = of-last P (w ∷ us) (λ u. each (suc u))
 
 -- What holds of each update, and of the last with one more move, holds of each once the move is added.
-each-added :
+pub each-added :
     (P : List Move → Type 0) (m : Move) (us : List (List Move)) → ((u : ℕ) → P (getD us u []))
     → P (lastOf us ++ (m ∷ [])) → (u : ℕ) → P (getD (addToLast m us) u [])
 each-added P m [] each last u = each u

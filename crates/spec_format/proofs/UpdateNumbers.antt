@@ -74,13 +74,13 @@ one-more-line d (some (move m)) is vs right makes =
 one-more-line d (some (entry e n)) is vs right makes = makes
 
 -- A line in front of lines that give a plan has no fault.
-no-fault : (x : Option Fault) (n : ℕ) (rest : ReadOutcome) (p : Plan) → planRead (orElse x n rest) ≡ some p
+pub no-fault : (x : Option Fault) (n : ℕ) (rest : ReadOutcome) (p : Plan) → planRead (orElse x n rest) ≡ some p
     → (x ≡ none) × (planRead rest ≡ some p)
 no-fault (some f) n rest p e = (cc, cc)
 no-fault none n rest p e = (refl, e)
 
 -- The plan at the end of a text.
-at-end : (d : Draft) (b : Bool) (n : ℕ) (p : Plan)
+pub at-end : (d : Draft) (b : Bool) (n : ℕ) (p : Plan)
     → planRead (cond b (sound d) (refused Fault.Misplaced n)) ≡ some p → d .plan ≡ p
 at-end d true n p e = cc
 at-end d false n p e = cc

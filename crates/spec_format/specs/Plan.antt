@@ -3,7 +3,7 @@
 -- Sizes (P N B S C), Job, Move and Entry are declared in src/lib.rt. Assumes nothing.
 use Prim.Native.Nat.{ℕ, zero, suc, _/_}
 use mathlib.Core.Bool.{Bool, false, cond, _||_}
-use mathlib.Core.List.{List, [], _∷_, _++_}
+use mathlib.Core.List.{List, [], _∷_, _++_, map}
 use lib.Dec.{eqb}
 use lib.ListN.{getD}
 use Rattle.spec_format.specs.declared.Sizes.{Sizes}
@@ -27,6 +27,10 @@ jobIn plan k = getD (plan .jobs) k (record { card = 0; priority = 0 })
 pub record Listed : Type 0 where
   pub entry : Entry
   pub line : ℕ
+
+-- Single entries without their lines.
+abbrev pub entriesIn : List Listed → List Entry
+entriesIn ls = map (λ (l : Listed). l .entry) ls
 
 -- What f gives at 0, 1, .., n − 1.
 abbrev pub tabulate : {A : Type 0} → ℕ → (ℕ → A) → List A

@@ -1,6 +1,6 @@
 -- The entry lines of a list of single entries: "steps of one card that follow each other are joined into the longest
 -- runs, and a run of one has no count." Assumes nothing.
-use Prim.Native.Nat.{ℕ, zero, suc, _≤_}
+use Prim.Native.Nat.{ℕ, suc, _≤_}
 use mathlib.Core.Path.{_≡_}
 use mathlib.Core.Bool.{cond}
 use mathlib.Core.List.{List, [], _∷_, _++_}

@@ -49,8 +49,8 @@ abbrev pub jobLines : Plan → List ℕ
 jobLines plan = joined (plan .sizes .jobs) (λ k. jobLine (jobIn plan k))
 
 -- The B block lines.
-abbrev pub blockLines : Plan → List ℕ
-blockLines plan = joined (plan .sizes .blocks) (blockLine plan)
+abbrev pub openingBlockLines : Plan → List ℕ
+openingBlockLines plan = joined (plan .sizes .blocks) (blockLine plan)
 
 -- The updates with their moves.
 abbrev pub allUpdateLines : Plan → List ℕ
@@ -58,7 +58,7 @@ allUpdateLines plan = joined (length (plan .updates)) (λ u. updateLines u (getD
 
 -- The text of a plan alone.
 unfoldable pub planText : Plan → List ℕ
-planText plan = planLine (plan .sizes) ++ (jobLines plan ++ (blockLines plan ++ allUpdateLines plan))
+planText plan = planLine (plan .sizes) ++ (jobLines plan ++ (openingBlockLines plan ++ allUpdateLines plan))
 
 -- The one text of a plan and single entries.
 unfoldable pub textOf : Plan → List Entry → List ℕ

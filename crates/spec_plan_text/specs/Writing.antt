@@ -3,10 +3,10 @@
 -- otherwise it is given back as a report's is": spec_report's Outcomes say how, by endWith, handed and left. Assumes
 -- nothing.
 use Prim.Native.Nat.{ℕ}
-use mathlib.Core.List.{List, [], map}
+use mathlib.Core.List.{List, []}
 use Rattle.spec_format.specs.declared.Entry.{Entry}
 use Rattle.spec_format.specs.declared.Form.{Form}
-use Rattle.spec_format.specs.Plan.{Listed}
+use Rattle.spec_format.specs.Plan.{entriesIn}
 use Rattle.spec_format.specs.Reading.{Reading, refusal, accepted, reading}
 use Rattle.spec_report.specs.declared.End.{End}
 use Rattle.spec_report.specs.Outcomes.{Outcome, refused, written, runText, runSchedule}
@@ -32,7 +32,7 @@ textRead (accepted plan ls n) es = textOf plan es
 -- The single entries that were read.
 abbrev pub entriesRead : Reading → List Entry
 entriesRead (refusal f n) = []
-entriesRead (accepted plan ls n) = map (λ (l : Listed). l .entry) ls
+entriesRead (accepted plan ls n) = entriesIn ls
 
 -- What writing a text comes to.
 unfoldable pub writeText : List ℕ → Outcome

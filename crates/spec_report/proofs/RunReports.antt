@@ -27,12 +27,12 @@ use Rattle.spec_report.specs.Outcomes.{runOutcome, endOf, endOfRun, line
 use Rattle.spec_report.specs.RunsAlike.{RunsAlike, TextsAlike}
 
 -- What a report has before `end`.
-abbrev beforeEnd : Plan → List Entry → Run → List ℕ
+abbrev pub beforeEnd : Plan → List Entry → Run → List ℕ
 beforeEnd plan es r =
     commitLines es (commitsIn (r .history)) ++ (blockLines plan (r .machine) ++ openLines plan (r .machine))
 
 -- A report is that, and `end`.
-report-parts :
+pub report-parts :
     (plan : Plan) (es : List Entry) (r : Run) (e : End) → report plan es r e ≡ beforeEnd plan es r ++ reportEnd e
 unfolding report
 report-parts plan es r e = simp append-assoc

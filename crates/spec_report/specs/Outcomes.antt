@@ -10,7 +10,7 @@ use Rattle.spec_text.specs.FirstPlaces.{inFirstPlaces}
 use Rattle.spec_format.specs.declared.Entry.{Entry}
 use Rattle.spec_format.specs.declared.Fault.{Fault}
 use Rattle.spec_format.specs.declared.Form.{Form}
-use Rattle.spec_format.specs.Plan.{Plan, Listed}
+use Rattle.spec_format.specs.Plan.{Plan, Listed, entriesIn}
 use Rattle.spec_format.specs.Faults.{mostEntries}
 use Rattle.spec_format.specs.Reading.{Reading, refusal, accepted, reading}
 use Rattle.spec_machine.specs.declared.Refusal.{Refusal}
@@ -48,7 +48,7 @@ lineIn ls i = getD (map (λ (l : Listed). l .line) ls) i 0
 -- which have "the effect of 2", are checked with 1 to 10.
 abbrev pub ofReading : Reading → Outcome
 ofReading (refusal f n) = refused (End.Faulty f n)
-ofReading (accepted plan ls n) = runOutcome plan (map (λ (l : Listed). l .entry) ls) (lineIn ls) n
+ofReading (accepted plan ls n) = runOutcome plan (entriesIn ls) (lineIn ls) n
 
 -- What a text comes to.
 unfoldable pub runText : List ℕ → Outcome

@@ -3,11 +3,11 @@
 -- its place. Assumes nothing.
 use Prim.Native.Nat.{ℕ, _≤_}
 use mathlib.Core.Path.{_≡_}
-use mathlib.Core.List.{List, _++_, map}
+use mathlib.Core.List.{List, _++_}
 use lib.ListN.{length}
 use Rattle.spec_format.specs.declared.Entry.{Entry}
 use Rattle.spec_format.specs.declared.Form.{Form}
-use Rattle.spec_format.specs.Plan.{Plan, Listed}
+use Rattle.spec_format.specs.Plan.{Plan, Listed, entriesIn}
 use Rattle.spec_format.specs.Reading.{accepted, longest, reading}
 use Rattle.spec_machine.specs.History.{runOf}
 use Rattle.spec_report.specs.declared.End.{End}
@@ -33,7 +33,7 @@ pub record RunsAlike (line : ℕ → ℕ) (plan : Plan) (es : List Entry) (one o
 pub record TextsAlike (line : ℕ → ℕ) (one other : List ℕ) : Type 0 where
   pub there :
       (p : Plan) (es : List Listed) (k : ℕ) → reading Form.Schedule one ≡ accepted p es k → length other ≤ longest
-      → RunsAlike line p (map (λ (l : Listed). l .entry) es) (runText one) (runText other)
+      → RunsAlike line p (entriesIn es) (runText one) (runText other)
   pub back :
       (p : Plan) (es : List Listed) (k : ℕ) → reading Form.Schedule other ≡ accepted p es k → length one ≤ longest
-      → RunsAlike line p (map (λ (l : Listed). l .entry) es) (runText one) (runText other)
+      → RunsAlike line p (entriesIn es) (runText one) (runText other)

@@ -1,9 +1,7 @@
--- How long a line of each kind can be in a report, where its numbers are in their ranges, and how long several parts
--- are. Assumes nothing.
-use Prim.Native.Nat.{ℕ, zero, suc, _+_, _*_, _≤_, _<_}
+-- How long a line of each kind can be in a report, where its numbers are in their ranges. Assumes nothing.
+use Prim.Native.Nat.{ℕ, _+_, _*_, _≤_, _<_}
 use mathlib.Core.List.{List, [], _∷_, _++_, map}
 use native.Mathlib.Omega.{arith}
-use native.Mathlib.Nat.{suc-mul}
 use lib.IntN.{ℤ, pos, negsuc}
 use lib.ListN.{length, length-append}
 use Rattle.spec_text.specs.Bytes.{bytes}
@@ -16,7 +14,7 @@ use Rattle.spec_machine.specs.Entries.{refusalNumber}
 use Rattle.spec_machine.specs.Ranges.{StatusIn}
 use Rattle.spec_report.specs.declared.End.{End}
 use Rattle.spec_text.specs.WrittenLines.{fieldsBehind, lineOf}
-use Rattle.spec_report.specs.Report.{largestNumber, endNumber, endLine, statusBytes, joined, reportEnd}
+use Rattle.spec_report.specs.Report.{largestNumber, endNumber, endLine, statusBytes, reportEnd}
 use Rattle.spec_report_length.specs.Longest.{longestCommit, longestBlock, longestOpen, longestEnd}
 
 -- Numbers behind tabs, and the line feed: at most eleven bytes for each, and one.
@@ -52,23 +50,6 @@ pub open-short :
     → length (bytes "open" ++ fieldsBehind (decimal job ∷ statusBytes status ∷ [])) ≤ longestOpen
 open-short job status j s =
     simp length-append (omega (arith, decimal-within 1 job j, status-short status s))
-
--- Two parts in a row, the first of at most m bytes and the second of at most n.
-pub append-short : (s t : List ℕ) (m n : ℕ) → length s ≤ m → length t ≤ n → length (s ++ t) ≤ m + n
-append-short s t m n h l = omega (arith, length-append s t)
-
--- What is joined of n parts of at most k bytes each.
-pub joined-short :
-    (n k : ℕ) (f : ℕ → List ℕ) → ((i : ℕ) → i < n → length (f i) ≤ k) → length (joined n f) ≤ n * k
-joined-short zero k f h = omega arith
-joined-short (suc n) k f h =
-    rw (suc-mul n k)
-    (omega (
-      arith,
-      length-append (joined n f) (f n),
-      joined-short n k f (λ i l. h i (omega arith)),
-      h n (omega arith),
-    ))
 
 -- The number of a fault.
 fault-number : (f : Fault) → numberOf f ≤ largestNumber

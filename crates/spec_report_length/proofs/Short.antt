@@ -53,17 +53,11 @@ use Rattle.spec_report.specs.Outcomes.{
   runSchedule,
 }
 use Rattle.spec_report.proofs.Ends.{end-low}
+use Rattle.spec_report.proofs.JoinedLengths.{append-short, joined-short}
 use Rattle.spec_report_length.specs.Longest.{longestCommit, longestBlock, longestOpen, longestEnd}
 use Rattle.spec_report_length.specs.Longest.{longestCommits, longestBlocks, longestOpens, longestReport}
 use Rattle.spec_report_length.proofs.Committed.{few-commits, AllInPlan, commits-in-plan}
-use Rattle.spec_report_length.proofs.LineLengths.{
-  commit-short,
-  block-short,
-  open-short,
-  end-short,
-  append-short,
-  joined-short,
-}
+use Rattle.spec_report_length.proofs.LineLengths.{commit-short, block-short, open-short, end-short}
 
 module _ (plan : Plan) (ok : Sound plan) where
   -- The lines of commits at entries of at most four digits, of calls that are in the plan.

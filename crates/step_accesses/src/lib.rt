@@ -4,7 +4,6 @@ ghost use mathlib.Core.Bool.{cond};
 ghost use Prim.Native.Nat.{_<_};
 ghost use lib.Dec.{eqb};
 ghost use lib.ListN.{length, getD};
-ghost use Rattle.read_tables.specs.PlanTable.{moveOf};
 ghost use Rattle.spec_machine.specs.Memory.{sum as sumOf};
 ghost use Rattle.spec_machine.specs.Moves.{accesses as accessesOf, read, wordOf, wordWritten as writtenBy, afterList};
 ghost use Rattle.step_cells.specs.Fits.{moveFor, InMove};
@@ -15,31 +14,13 @@ use spec_machine::Place;
 use spec_machine::Stage;
 use step_cells::Registers;
 
-// The move that stands in a plan's table as these numbers.
-fn move_of(kind: u32, target: u32, source: u32, amount: u32) -> Move
-    ensures { λ r. ⌜ r ≡ moveOf kind target source amount ⌝ }
-{
-    if kind == 0 {
-        return Move::Copy(target, source);
-    }
-    if kind == 1 {
-        return Move::Set(target, amount);
-    }
-    Move::Add(target, source, amount)
-}
-
 // The move that a job is at, inside an update.
 pub fn move_for(plan: &[u32; PLAN_PLACES], w: Registers) -> Move
     requires { ⌜ InMove (now plan) w ⌝ }
     ensures { λ r. ⌜ r ≡ moveFor (now (plan .entry)) w ⌝ }
 {
     let m = 16 * w.tr as usize + w.index as usize;
-    move_of(
-        read_tables::kind(plan, m),
-        read_tables::target(plan, m),
-        read_tables::source(plan, m),
-        read_tables::amount(plan, m),
-    )
+    read_tables::move_at(plan, m)
 }
 
 // How many reads and writes a move has.

@@ -1,7 +1,8 @@
-// The texts of cases are checked and run, and what comes of a case is compared with what it says: a line is written
-// where the two differ, and for each pack how many cases agree.
+// The texts of cases are checked, run and written, and what comes of a case is compared with what it says: a line goes
+// to standard output where the two differ, and for each pack how many cases agree.
 ghost use Prim.Native.Nat.{_≤_};
 ghost use lib.ListN.{length};
+ghost use Rattle.io.specs.Counts.{Counts};
 use public_printing::OUTPUT;
 use public_printing::Printed;
 use public_reference::Answer;
@@ -16,6 +17,12 @@ pub const MARKER: u8 = 170;
 pub enum Ending {
     Read(Answer),
     Malformed,
+}
+
+// How many cases of a kind were tried, and how many of them agree.
+pub struct Tally {
+    pub agree: usize,
+    pub tried: usize,
 }
 
 // The number and line that a line `end n l` gives.
@@ -36,6 +43,18 @@ pub fn read_ending(line: &[u8]) -> Ending {
         number: number as usize,
         line: place as usize,
     })
+}
+
+// What the output of a case that is written says of its end: it is refused so, or accepted with a count.
+pub fn written_ending(output: &[u8], count: usize) -> Answer {
+    let ending = read_ending(vectors_cases::last_line(output));
+    let Ending::Read(end) = ending else {
+        return Answer {
+            number: 0,
+            line: count,
+        };
+    };
+    end
 }
 
 // What a case says of the check of its text: an output that ends in 0, or in 11 to 15, which only a run meets, says
@@ -82,10 +101,11 @@ fn print_both(first: &[u8], second: &[u8]) {
     print(second);
 }
 
-// Writes the names of a pack and of a case.
-fn print_names(pack_name: &[u8], case_name: &[u8]) {
+// Writes the names of a pack and of a case, and what was done with it.
+fn print_names(pack_name: &[u8], case_name: &[u8], way: &[u8]) {
     print_both(pack_name, b": ");
     print_both(case_name, b": ");
+    print_both(way, b": ");
 }
 
 // Writes the answer to a case, and the one that is wanted.
@@ -97,10 +117,10 @@ fn print_difference(got: Answer, want: Answer) {
     print(b"\n");
 }
 
-// Writes the first line of a report that is not the one that is wanted, and the one that is.
-fn print_lines(report: &[u8], output: &[u8]) {
-    let before = vectors_cases::same_lines(report, output);
-    print_both(b"got ", vectors_cases::word(report, b'\n', before));
+// Writes the first line of what was written that is not the one that is wanted, and the one that is.
+fn print_lines(written: &[u8], output: &[u8]) {
+    let before = vectors_cases::same_lines(written, output);
+    print_both(b"got ", vectors_cases::word(written, b'\n', before));
     print_both(b", wanted ", vectors_cases::word(output, b'\n', before));
     print(b"\n");
 }
@@ -116,25 +136,25 @@ pub fn print_malformed(name: &[u8]) {
     print_both(name, b": malformed\n");
 }
 
-// Writes how many texts of a pack were run and how many of them agree in their check and in their run; and the same of
-// its schedules, where it has any.
-pub fn print_total(
-    name: &[u8],
-    checks: usize,
-    runs: usize,
-    run: usize,
-    schedules: usize,
-    scheduled: usize,
-) {
+// Writes how many cases agree of those that were tried, and bytes behind it.
+fn print_tally(tally: Tally, bytes: &[u8]) {
+    print_counted(tally.agree, b" of ");
+    print_counted(tally.tried, bytes);
+}
+
+// Writes how many texts of a pack agree in their check and in their run; and the same of its schedules and of what is
+// written, where it has any.
+pub fn print_total(name: &[u8], checks: Tally, runs: Tally, schedules: Tally, writings: Tally) {
     print_both(name, b": ");
-    print_counted(checks, b" of ");
-    print_counted(run, b" checks agree, ");
-    print_counted(runs, b" of ");
-    print_counted(run, b" runs agree");
-    if scheduled > 0 {
+    print_tally(checks, b" checks agree, ");
+    print_tally(runs, b" runs agree");
+    if schedules.tried > 0 {
         print(b", ");
-        print_counted(schedules, b" of ");
-        print_counted(scheduled, b" schedules agree");
+        print_tally(schedules, b" schedules agree");
+    }
+    if writings.tried > 0 {
+        print(b", ");
+        print_tally(writings, b" writings agree");
     }
     print(b"\n");
 }
@@ -154,13 +174,12 @@ pub fn check_case(pack_name: &[u8], case_name: &[u8], text: &[u8], end: Answer) 
     if same_answer(got, want) {
         return true;
     }
-    print_names(pack_name, case_name);
-    print(b"check: ");
+    print_names(pack_name, case_name, b"check");
     print_difference(got, want);
     false
 }
 
-// Whether the bytes from a place on are all as before the run.
+// Whether the bytes from a place on are all as before the call.
 fn kept(bytes: &[u8], from: usize) -> bool
     requires { ⌜ from ≤ length (now bytes) ⌝ }
 {
@@ -179,14 +198,13 @@ fn compare_bytes(
     if check::same(written, wanted) {
         return true;
     }
-    print_names(pack_name, case_name);
-    print(way);
+    print_names(pack_name, case_name, way);
     print_lines(written, output);
     false
 }
 
-// Whether a run ended as is wanted, and left the bytes past its report as they were. Writes a line where not, which
-// says by `way` how the text was run.
+// Whether a call ended as is wanted, and left the bytes past what it wrote as they were. Writes a line where not, which
+// says by `way` what was done with the case.
 fn compare_end(
     pack_name: &[u8],
     case_name: &[u8],
@@ -196,21 +214,20 @@ fn compare_end(
     is_kept: bool,
 ) -> bool {
     if !same_answer(got, end) {
-        print_names(pack_name, case_name);
-        print(way);
+        print_names(pack_name, case_name, way);
         print_difference(got, end);
         return false;
     }
     if !is_kept {
-        print_names(pack_name, case_name);
-        print_both(way, b"bytes past the report were written\n");
+        print_names(pack_name, case_name, way);
+        print(b"bytes past the end were written\n");
         return false;
     }
     true
 }
 
-// Whether a run ended as is wanted, wrote the bytes that are wanted of a case's output, and nothing past them. Writes a
-// line where not.
+// Whether a call ended as is wanted, wrote the bytes that are wanted of a case's output, and nothing past them. Writes
+// a line where not.
 fn compare_written(
     pack_name: &[u8],
     case_name: &[u8],
@@ -231,10 +248,11 @@ fn compare_written(
     compare_bytes(pack_name, case_name, way, &room[..written], wanted, output)
 }
 
-// Whether a run ended with the output that is wanted, and wrote nothing past its report. Writes a line where not.
-pub fn compare_run(
+// Whether a call ended with the output that is wanted, and wrote nothing past it. Writes a line where not.
+pub fn compare_ended(
     pack_name: &[u8],
     case_name: &[u8],
+    way: &[u8],
     output: &[u8],
     end: Answer,
     ended: Ended,
@@ -246,11 +264,11 @@ pub fn compare_run(
         number: ended.number,
         line: ended.line,
     };
-    let wanted = vectors_cases::wanted_report(output);
+    let wanted = vectors_cases::wanted_bytes(output);
     compare_written(
         pack_name,
         case_name,
-        b"run: ",
+        way,
         got,
         end,
         wanted,
@@ -278,7 +296,7 @@ fn compare_print(
     compare_written(
         pack_name,
         case_name,
-        b"print: ",
+        b"print",
         got,
         end,
         output,
@@ -288,7 +306,17 @@ fn compare_print(
     )
 }
 
-// Runs the text of a case as the program does, and compares what is to be printed.
+// What the program prints of a text that it runs, or writes.
+fn print_text(text: &[u8], room: &mut [u8; OUTPUT], writes: bool) -> Printed
+    ensures { λ r. ⌜ Counts (r .length) (now (room .exit)) ⌝ }
+{
+    if writes {
+        return public_printing::print_write(text, room);
+    }
+    public_printing::print_run(text, room)
+}
+
+// Runs the text of a case as the program does, or writes it so, and compares what is to be printed.
 pub fn try_print(
     pack_name: &[u8],
     case_name: &[u8],
@@ -296,33 +324,40 @@ pub fn try_print(
     output: &[u8],
     end: Answer,
     room: &mut [u8; OUTPUT],
+    writes: bool,
 ) -> bool {
     vectors_cases::fill(room, MARKER);
-    let printed = public_printing::print_run(text, room);
+    let printed = print_text(text, room, writes);
     compare_print(pack_name, case_name, output, end, printed, room)
 }
 
-// Runs a text, with n bytes lent for the report.
-fn run_case_text(text: &[u8], room: &mut [u8], n: usize) -> Ended
+// Runs a text, or writes it, with n bytes lent.
+fn run_or_write(text: &[u8], room: &mut [u8], n: usize, writes: bool) -> Ended
     requires { ⌜ n ≤ length (now room) ⌝ }
     ensures { λ r. ⌜ r .length ≤ n ⌝ }
 {
-    public_reference::run(text, &mut room[..n])
+    let lent = &mut room[..n];
+    if writes {
+        return public_writer::write(text, lent);
+    }
+    public_reference::run(text, lent)
 }
 
-// Runs the text of a case with n bytes lent, and compares.
+// Runs the text of a case, or writes it, with n bytes lent, and compares.
 pub fn try_case(
     pack_name: &[u8],
     case_name: &[u8],
+    way: &[u8],
     text: &[u8],
     output: &[u8],
     end: Answer,
     room: &mut [u8],
     n: usize,
+    writes: bool,
 ) -> bool
     requires { ⌜ n ≤ length (now room) ⌝ }
 {
     vectors_cases::fill(room, MARKER);
-    let ended = run_case_text(text, room, n);
-    compare_run(pack_name, case_name, output, end, ended, room)
+    let ended = run_or_write(text, room, n, writes);
+    compare_ended(pack_name, case_name, way, output, end, ended, room)
 }

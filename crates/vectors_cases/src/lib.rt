@@ -35,7 +35,7 @@ pub enum Next {
     Malformed,
 }
 
-// How much room a case has for its report.
+// How much room a case has for what is written.
 pub enum Room {
     Bytes(usize),
     Malformed,
@@ -158,8 +158,9 @@ pub fn last_line(bytes: &[u8]) -> &[u8] {
     word(bytes, b'\n', lines - 1)
 }
 
-// The report that a case's output is. An output of one line is none: a report has a line for each block besides.
-pub fn wanted_report(output: &[u8]) -> &[u8] {
+// The bytes that a case's output wants written. An output of one line wants none: a report and a written text have a
+// line for each block besides.
+pub fn wanted_bytes(output: &[u8]) -> &[u8] {
     let line = last_line(output);
     if line.len() + 1 == output.len() {
         return &output[..0];
@@ -178,12 +179,12 @@ pub fn room_of(bytes: &[u8], all: usize) -> Room {
     Room::Bytes(number as usize)
 }
 
-// How many lines of a report stand in the output as well, before the first that does not.
-pub fn same_lines(report: &[u8], output: &[u8]) -> usize {
-    let lines = count(report, b'\n');
+// How many lines that were written stand in the output as well, before the first that does not.
+pub fn same_lines(written: &[u8], output: &[u8]) -> usize {
+    let lines = count(written, b'\n');
     let mut i = 0;
     while i < lines {
-        if !check::same(word(report, b'\n', i), word(output, b'\n', i)) {
+        if !check::same(word(written, b'\n', i), word(output, b'\n', i)) {
             return i;
         }
         i += 1;

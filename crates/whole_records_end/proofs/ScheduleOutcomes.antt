@@ -112,7 +112,8 @@ module _ {text : List ℕ} {es : List Entry} {lines : ℕ} {t : List ℕ} {x : T
       (omega (arith, few)))
 
   -- What is written, where no record is of another kind.
-  pub report-is : bookOf x .other ≤ 0 → written end (reportBytes t x (endNumber end) (endLine end)) ≡ runSchedule text es
+  pub report-is : bookOf x .other ≤ 0
+      → written end (reportBytes t x (endNumber end) (endLine end)) ≡ runSchedule text es
   report-is none-other =
       the-outcome sound few (ran .1) (λ i. i + 1) (length es) end
       (so ∙ end-is sound few (ran .1) (λ i. i + 1) (length es))

@@ -6,6 +6,7 @@ ghost use Rattle.spec_report.specs.Outcomes.{runSchedule, left};
 ghost use Rattle.report_ending.specs.Finishing.{WrittenOut, endedOf};
 ghost use Rattle.step_cells.specs.Tables.{lent};
 ghost use Rattle.whole_records_start.specs.BeforeAndAfter.{Closing};
+use read_records::MOST;
 use read_tables::PLAN_PLACES;
 use report_ending::Ended;
 use report_ending::WrittenEnd;
@@ -14,7 +15,6 @@ use spec_format::Fault;
 use spec_format::Verdict;
 use spec_report::End;
 use step_cells::CELL_PLACES;
-use whole_records_start::MOST;
 
 // The report is written, unless the text or the records are refused.
 fn report_of(

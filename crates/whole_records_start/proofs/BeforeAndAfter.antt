@@ -3,52 +3,26 @@
 use Prim.Native.Nat.{ℕ, _≤_, _<_}
 use mathlib.Core.Path.{_≡_, refl, sym, _∙_, ap, subst}
 use mathlib.Core.List.{List}
-use native.Mathlib.Decide.{decLt}
 use native.Mathlib.Omega.{arith}
-use borrow.Author.Tests.{lt-ltb, le-ltb}
 use lib.IntN.{ℤ}
 use lib.ListN.{length, take}
 use lib.Seq.{take-length}
 use Rattle.spec_format.specs.declared.Entry.{Entry}
 use Rattle.spec_format.specs.declared.Form.{Form}
 use Rattle.spec_format.specs.declared.Verdict.{Verdict}
-use Rattle.spec_format.specs.Faults.{mostEntries}
 use Rattle.spec_format.specs.Sound.{Sound}
 use Rattle.spec_format.proofs.Sound.{accepted-sound}
 use Rattle.read_tables.specs.PlanTable.{planIn}
+use Rattle.read_records.proofs.FewRecords.{few-run, none-of-many, all-run}
 use Rattle.step_cells.specs.Tables.{Tables, lent}
 use Rattle.run_loop.specs.RunReached.{Starts, Ran}
 use Rattle.run_opening.specs.Opened.{emptyRows, Opened}
 use Rattle.whole_records_start.specs.declared.Begun.{Begun}
-use Rattle.whole_records_start.specs.BeforeAndAfter.{toRun, Accepts, ByVerdict, BegunIs, Closing}
+use Rattle.whole_records_start.specs.BeforeAndAfter.{Accepts, ByVerdict, BegunIs, Closing}
 use Rattle.run_loop.proofs.Starting.{opened-starts}
 
--- No more records run than there are.
-few-run : (count : ℕ) → toRun count ≤ count
-few-run count = by (decLt mostEntries count)
-  where
-    by : Dec (mostEntries < count) → toRun count ≤ count
-    by (yes l) = rw (lt-ltb mostEntries count l) (omega arith)
-    by (no n) =
-        let few : count ≤ mostEntries = omega arith in
-        rw (le-ltb mostEntries count few) (omega arith)
-
--- Where one runs they are few.
-none-of-many : (count : ℕ) → 0 < toRun count → count ≤ 4000
-none-of-many count l = by (decLt mostEntries count)
-  where
-    by : Dec (mostEntries < count) → count ≤ 4000
-    by (yes m) =
-        let none : toRun count ≡ 0 = rw (lt-ltb mostEntries count m) in
-        absurd (omega (arith, none))
-    by (no m) = omega arith
-
--- All run where they are few.
-all-run : (count : ℕ) → count ≤ 4000 → toRun count ≡ count
-all-run count few = rw (le-ltb mostEntries count few)
-
 -- A plan that was accepted is sound.
-sound : {text t : List ℕ} {lines : ℕ} → Accepts text lines t → Sound (planIn t)
+pub sound : {text t : List ℕ} {lines : ℕ} → Accepts text lines t → Sound (planIn t)
 sound {text} {t} {lines} a = accepted-sound Form.PlanAlone text (planIn t) (a .listed) lines (a .read)
 
 -- The rows and the commits before any record has run.

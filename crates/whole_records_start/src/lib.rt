@@ -4,15 +4,12 @@ ghost use lib.ListN.{length};
 ghost use Rattle.read_tables.specs.PlanTable.{emptyPlan};
 ghost use Rattle.read_tables.specs.NoteTable.{notePlaces};
 ghost use Rattle.run_opening.specs.Opened.{emptyCells, emptyStore};
-ghost use Rattle.whole_records_start.specs.BeforeAndAfter.{toRun, BegunIs};
+ghost use Rattle.whole_records_start.specs.BeforeAndAfter.{PlanRead, BegunIs};
 use read_tables::NOTE_PLACES;
 use read_tables::PLAN_PLACES;
 use spec_format::Form;
 use spec_format::Verdict;
 use step_cells::CELL_PLACES;
-
-// The most records that a schedule has.
-pub const MOST: usize = 4000;
 
 // What a plan's text and the count of the records come to before any record runs: the verdict on the text, and how many
 // records run.
@@ -21,44 +18,29 @@ pub struct Begun {
     pub n: usize,
 }
 
-// How many records run: none, where there are too many.
-fn to_run(count: usize) -> usize
-    ensures { λ r. ⌜ r ≡ toRun count ⌝ }
-{
-    if count > MOST {
-        return 0;
-    }
-    count
-}
-
-// The plan's text is read into the tables, and where it is accepted the machine's are opened.
-fn begin_lent(
+// A plan's text is read into the plan's table, with a lent table of notes, of which a plan's text has none.
+pub fn read_lent(
     text: &[u8],
-    count: usize,
     plan: &mut [u32; PLAN_PLACES],
     notes: &mut [u32; NOTE_PLACES],
-    cells: &mut [u32; CELL_PLACES],
-    stat: &mut [i32; 17],
-    store: &mut [u32],
-) -> Begun
-    requires { ⌜ (now plan ≡ emptyPlan) × ((length (now notes) ≡ notePlaces) × ((now cells ≡ emptyCells)
-        × ((length (now stat) ≡ 17) × (now store ≡ emptyStore)))) ⌝ }
-    ensures { λ r. ⌜ BegunIs (now (text .entry)) count r (now (plan .exit)) (now (cells .exit)) (now (stat .exit))
-        (now (store .exit)) ⌝ }
+) -> Verdict
+    requires { ⌜ (now plan ≡ emptyPlan) × (length (now notes) ≡ notePlaces) ⌝ }
+    ensures { λ r. ⌜ PlanRead (now (text .entry)) r (now (plan .exit)) ⌝ }
 {
     let parsed = read_text::read(text, Form::PlanAlone, plan, notes);
-    let verdict = parsed.verdict;
-    match verdict {
-        Verdict::Refused(_, _) => Begun { verdict, n: 0 },
-        Verdict::Accepted(_) => {
-            run_opening::open(plan, cells, stat, store);
-            let n = to_run(count);
-            Begun { verdict, n }
-        }
-    }
+    parsed.verdict
 }
 
-// What comes before the records run. The table of notes, of which a plan's text has none, is made here.
+// A plan's text is read into the plan's table. The table of notes is made here.
+fn read_plan(text: &[u8], plan: &mut [u32; PLAN_PLACES]) -> Verdict
+    requires { ⌜ now plan ≡ emptyPlan ⌝ }
+    ensures { λ r. ⌜ PlanRead (now (text .entry)) r (now (plan .exit)) ⌝ }
+{
+    let mut notes = [0u32; NOTE_PLACES];
+    read_lent(text, plan, &mut notes)
+}
+
+// What comes before the records run: the plan's text is read, and where it is accepted the machine's tables are opened.
 pub fn begin(
     text: &[u8],
     count: usize,
@@ -72,6 +54,13 @@ pub fn begin(
     ensures { λ r. ⌜ BegunIs (now (text .entry)) count r (now (plan .exit)) (now (cells .exit)) (now (stat .exit))
         (now (store .exit)) ⌝ }
 {
-    let mut notes = [0u32; NOTE_PLACES];
-    begin_lent(text, count, plan, &mut notes, cells, stat, store)
+    let verdict = read_plan(text, plan);
+    match verdict {
+        Verdict::Refused(_, _) => Begun { verdict, n: 0 },
+        Verdict::Accepted(_) => {
+            run_opening::open(plan, cells, stat, store);
+            let n = read_records::to_run(count);
+            Begun { verdict, n }
+        }
+    }
 }

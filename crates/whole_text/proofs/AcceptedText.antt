@@ -8,7 +8,7 @@ use lib.ListN.{length, take, length-map}
 use Rattle.spec_format.specs.declared.Entry.{Entry}
 use Rattle.spec_format.specs.declared.Fault.{Fault}
 use Rattle.spec_format.specs.declared.Form.{Form}
-use Rattle.spec_format.specs.Plan.{Listed}
+use Rattle.spec_format.specs.Plan.{Listed, entriesIn}
 use Rattle.spec_format.specs.Sound.{Sound}
 use Rattle.spec_format.specs.Reading.{refusal, accepted, reading}
 use Rattle.spec_format.proofs.Sound.{accepted-sound, accepted-few}
@@ -28,7 +28,6 @@ use Rattle.run_judge.specs.Rulings.{haltOf}
 use Rattle.run_opening.specs.Opened.{emptyRows, Opened}
 use Rattle.run_loop.specs.RunReached.{Starts, Ran}
 use Rattle.run_loop.proofs.Starting.{opened-starts}
-use Rattle.read_single_entries.specs.EntriesAlone.{entriesIn}
 use Rattle.report_writer.specs.Writing.{Reportable, reportBytes}
 use Rattle.report_ending.proofs.ReportOfTables.{reportable-rowless, reportable, end-is, the-outcome}
 use Rattle.whole_text.specs.Reads.{Reads}
@@ -53,7 +52,7 @@ module _ (text t notes : List ℕ) (parsed : Parsed) (lines : ℕ) (reads : Read
   es = entriesIn ls
 
   -- What the text gives.
-  given : reading Form.Schedule text ≡ accepted (planIn t) ls lines
+  pub given : reading Form.Schedule text ≡ accepted (planIn t) ls lines
   given =
       sym
       (ap (λ v. readingFrom v t (parsed .notes) notes) (sym (reads .verdict-is)) ∙ reads .read .gives)

@@ -10,7 +10,7 @@ use lib.ListN.{length, take, replicate, length-set}
 use denote.Ref.{now}
 use Rattle.spec_format.specs.declared.Entry.{Entry}
 use Rattle.read_tables.specs.NoteTable.{noteAt, listedIn}
-use Rattle.read_single_entries.specs.EntriesAlone.{entriesIn}
+use Rattle.spec_format.specs.Plan.{entriesIn}
 use Rattle.read_single_entries.proofs.SingleEntries.{one-more, no-fewer, records-more, record-put}
 use Rattle.read_single_entries.proofs.records_of.Statement.{statement}
 use Rattle.read_single_entries.proofs.records_of.Tie as tie

@@ -1,6 +1,6 @@
--- `run_pack` is safe and ends. The loop's invariant: no more cases are counted than bytes were passed. Assumes
+-- `run_pack` is safe and ends. The loop's invariant: of no kind are more cases counted than bytes were passed. Assumes
 -- nothing.
-use Prim.Native.Nat.{ℕ, _≤_, _-_, _+_}
+use Prim.Native.Nat.{ℕ, _≤_, _-_}
 use native.Mathlib.Omega.{arith}
 use mathlib.Core.Path.{_≡_, subst}
 use lib.ListN.{length}
@@ -9,17 +9,17 @@ use Rattle.vectors_cases.specs.declared.Next.{Next}
 use Rattle.vectors_cases.specs.declared.Next.the-variants.{Case}
 use Rattle.vectors_cases.specs.declared.Parts.{Parts}
 use Rattle.vectors_cases.specs.CaseParts.{CasePlaced, Within}
+use Rattle.vectors.specs.LowTally.{Low}
 use borrow.Author.Needs.{needs}
 use Rattle.vectors.proofs.run_pack.Statement.{statement}
 use Rattle.vectors.proofs.run_pack.Tie as tie
 
 abbrev Inv-loop : tie.InvT-loop
-Inv-loop name pack room₀ checks₀ runs₀ run₀ schedules₀ scheduled₀ at₀ room checks runs run schedules scheduled at =
-    (at ≤ length pack)
-    × ((checks ≤ run) × ((runs ≤ run) × ((schedules ≤ scheduled) × (run + scheduled ≤ at))))
+Inv-loop name pack room₀ checks₀ runs₀ schedules₀ writings₀ at₀ room checks runs schedules writings at =
+    (at ≤ length pack) × (Low checks at × (Low runs at × (Low schedules at × Low writings at)))
 
 abbrev μ-loop : tie.MeasureT-loop
-μ-loop name pack room₀ checks₀ runs₀ run₀ schedules₀ scheduled₀ at₀ room checks runs run schedules scheduled at =
+μ-loop name pack room₀ checks₀ runs₀ schedules₀ writings₀ at₀ room checks runs schedules writings at =
     length pack - at
 
 -- Of a case that was found, what is known of what was found.
@@ -66,17 +66,17 @@ counted-requires c κs = search needs
 counted-requires-2 : tie.Need-counted-requires-2 Inv-loop μ-loop
 counted-requires-2 c κs = search needs
 
-add-run : tie.Need-add-run Inv-loop μ-loop
-add-run c = search needs
-
 enum-known-agrees : tie.Need-enum-known-agrees Inv-loop μ-loop
 enum-known-agrees c = search needs
 
 counted-requires-3 : tie.Need-counted-requires-3 Inv-loop μ-loop
 counted-requires-3 c κs = search needs
 
-add-scheduled : tie.Need-add-scheduled Inv-loop μ-loop
-add-scheduled c = search needs
+enum-known-agrees-2 : tie.Need-enum-known-agrees-2 Inv-loop μ-loop
+enum-known-agrees-2 c = search needs
+
+counted-requires-4 : tie.Need-counted-requires-4 Inv-loop μ-loop
+counted-requires-4 c κs = search needs
 
 enum-told-2 : tie.Need-enum-told-2 Inv-loop μ-loop
 enum-told-2 c = search needs
@@ -94,8 +94,10 @@ loop-less c =
 
 loop-again : tie.Need-loop-again Inv-loop μ-loop
 loop-again c =
-    let p = placed (c .before .before .before .before .before .before .before .before) in
-    (omega arith, (omega arith, (omega arith, (omega arith, omega arith))))
+    let found = c .before .before .before .before .before .before .before .before in
+    let p = placed found in
+    let inv = found .before .before .before .before .loop .inv in
+    search needs
 
 loop-less-2 : tie.Need-loop-less-2 Inv-loop μ-loop
 loop-less-2 c =
@@ -105,7 +107,17 @@ loop-less-2 c =
 loop-again-2 : tie.Need-loop-again-2 Inv-loop μ-loop
 loop-again-2 c =
     let p = placed (c .before .before .before .before .before .before .before) in
-    (omega arith, (omega arith, (omega arith, (omega arith, omega arith))))
+    search needs
+
+loop-less-3 : tie.Need-loop-less-3 Inv-loop μ-loop
+loop-less-3 c =
+    let p = placed (c .before .before .before .before .before .before .before) in
+    omega arith
+
+loop-again-3 : tie.Need-loop-again-3 Inv-loop μ-loop
+loop-again-3 c =
+    let p = placed (c .before .before .before .before .before .before .before) in
+    search needs
 
 print-total-requires : tie.Need-print-total-requires Inv-loop μ-loop
 print-total-requires c κs = search needs
@@ -129,10 +141,10 @@ run-pack-spec =
     enum-known-agreed
     counted-requires
     counted-requires-2
-    add-run
     enum-known-agrees
     counted-requires-3
-    add-scheduled
+    enum-known-agrees-2
+    counted-requires-4
     enum-told-2
     print-malformed-requires-2
     returns-2
@@ -140,5 +152,7 @@ run-pack-spec =
     loop-again
     loop-less-2
     loop-again-2
+    loop-less-3
+    loop-again-3
     print-total-requires
     returns-3)

@@ -5,10 +5,10 @@ use Rattle.vectors_cases.proofs.same_lines.Statement.{statement}
 use Rattle.vectors_cases.proofs.same_lines.Tie as tie
 
 abbrev Inv-loop : tie.InvT-loop
-Inv-loop report output lines i₀ i = i ≤ lines
+Inv-loop written output lines i₀ i = i ≤ lines
 
 abbrev μ-loop : tie.MeasureT-loop
-μ-loop report output lines i₀ i = lines - i
+μ-loop written output lines i₀ i = lines - i
 
 count-requires : tie.Need-count-requires Inv-loop μ-loop
 count-requires c κs = search needs

@@ -1,0 +1,3 @@
+-- The laws of a schedule of records.
+pub mod FewRecords
+pub mod NotedSoFar

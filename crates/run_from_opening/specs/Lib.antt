@@ -1,0 +1,2 @@
+-- How a run from the opening on ends.
+pub mod Ends

@@ -1,0 +1,2 @@
+-- What a written line leaves in the buffer.
+pub mod Fills

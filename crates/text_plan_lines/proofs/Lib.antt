@@ -1,0 +1,2 @@
+-- The lines of a plan by its table.
+pub mod TableLines

@@ -1,0 +1,2 @@
+-- The lines of a plan before its updates.
+pub mod BeforeUpdates

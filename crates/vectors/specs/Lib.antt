@@ -1,0 +1,2 @@
+-- The bounds of a tally.
+pub mod LowTally

@@ -1,0 +1,2 @@
+-- The text that tables hold, in parts, and the text written out.
+pub mod TextParts

@@ -1,0 +1,2 @@
+-- The text that tables hold.
+pub mod TextIn

@@ -1,0 +1,2 @@
+-- The laws of a plan's text with noted records that is written.
+pub mod RecordsWritten

@@ -1,0 +1,2 @@
+-- The laws of an accepted text that is written.
+pub mod AcceptedWritten
