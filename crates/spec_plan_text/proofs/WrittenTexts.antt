@@ -35,7 +35,8 @@ use Rattle.spec_report.proofs.RunReports.{beforeEnd, report-parts}
 use Rattle.spec_plan_text.specs.EntryLines.{plain}
 use Rattle.spec_plan_text.specs.PlanText.{textOf}
 use Rattle.spec_plan_text.specs.Writing.{writtenAt, afterRun, textRead, entriesRead, writeText, writeSchedule}
-use Rattle.spec_plan_text.specs.WrittenTexts.{WrittenFrom, OnlyLongest, NotAccepted, Follows}
+use Rattle.spec_plan_text.specs.WrittenTexts.{WrittenFrom, Written, SameMeaning, OnlyLongest, NotAccepted}
+use Rattle.spec_plan_text.specs.WrittenTexts.{Follows}
 use Rattle.spec_plan_text.specs.LongestText.{longestText}
 use Rattle.spec_plan_text.proofs.Runnable.{AllRunnable}
 use Rattle.spec_plan_text.proofs.LongestRuns.{KnownKinds, plain-text, only-longest}
@@ -269,19 +270,19 @@ written-longest plan es run n text w =
     rw (w .same-entries) at
     (only-longest (entriesIn (w .listed)) (read-kinds Form.Schedule text plan (w .listed) (w .lines) (w .read-back)))
 
--- Two written texts are the same bytes just where they mean the same: they have the same plan and the same single
--- entries. Each is written of a text or of a schedule of records.
+-- Two written texts are the same bytes just where they have the same plan and the same single entries.
 pub one-meaning :
-    (p q : Plan) (es fs : List Entry) (a b : Outcome) (n m : ℕ) (one other : List ℕ)
-    → WrittenFrom p es a n one → WrittenFrom q fs b m other
-    → ((p ≡ q) × (es ≡ fs)) ↔ (one ≡ other)
-one-meaning p q es fs a b n m one other this that = (
-  λ same. cc (this .text-is, that .text-is, same .0, same .1),
+    (one other : List ℕ) (this : Written one) (that : Written other)
+    → ((this .plan ≡ that .plan) × (this .entries ≡ that .entries)) ↔ (one ≡ other)
+one-meaning one other this that = (
+  λ same. cc (this .from .text-is, that .from .text-is, same .0, same .1),
   λ same.
-      let read : accepted p (this .listed) (this .lines) ≡ accepted q (that .listed) (that .lines)
-      = sym (this .read-back) ∙ ap (reading Form.Schedule) same ∙ that .read-back in
-      let listed : this .listed ≡ that .listed = cc read in
-      (cc read, sym (this .same-entries) ∙ ap entriesIn listed ∙ that .same-entries),
+      let a = this .from in
+      let b = that .from in
+      let read : accepted (this .plan) (a .listed) (a .lines) ≡ accepted (that .plan) (b .listed) (b .lines)
+      = sym (a .read-back) ∙ ap (reading Form.Schedule) same ∙ b .read-back in
+      let listed : a .listed ≡ b .listed = cc read in
+      (cc read, sym (a .same-entries) ∙ ap entriesIn listed ∙ b .same-entries),
 )
 
 -- What writing an accepted text comes to.
@@ -291,22 +292,34 @@ write-accepted :
 unfolding writeText runText
 write-accepted text p ls n read = rw read
 
--- Two texts that mean the same are written alike, byte for byte, and two that are written alike mean the same.
+-- Of a written text: just the texts with the same meaning are written alike, byte for byte.
 pub one-text :
-    (one other : List ℕ) (p q : Plan) (ls ms : List Listed) (n m : ℕ) (out : List ℕ)
-    → reading Form.Schedule one ≡ accepted p ls n → reading Form.Schedule other ≡ accepted q ms m
-    → writeText one ≡ written (End.Accepted n) out
-    → ((p ≡ q) × (entriesIn ls ≡ entriesIn ms)) ↔ (writeText other ≡ written (End.Accepted m) out)
-one-text one other p q ls ms n m out read read-other writes = (
-  λ same.
-      let so = ran p (entriesIn ls) (lineIn ls) n (textOf p (entriesIn ls)) out n
-      (sym (write-accepted one p ls n read) ∙ writes) in
-      let accepts : runOf q (entriesIn ms) .refusal ≡ none = rw (same .0, same .1) at (so .0) in
-      let text : textOf q (entriesIn ms) ≡ out = rw (same .0, same .1) at (so .2) in
-      write-accepted other q ms m read-other ∙ rw (accepts, text),
-  λ writes-other.
+    (one other out : List ℕ) (n : ℕ) → writeText one ≡ written (End.Accepted n) out
+    → SameMeaning one other ↔ ((m : ℕ) × (writeText other ≡ written (End.Accepted m) out))
+one-text one other out n writes = (
+  λ s.
+      let es = entriesIn (s .listed) in
+      let fs = entriesIn (s .otherListed) in
+      let so = ran (s .plan) es (lineIn (s .listed)) (s .lines) (textOf (s .plan) es) out n
+      (sym (write-accepted one (s .plan) (s .listed) (s .lines) (s .one-read)) ∙ writes) in
+      let accepts : runOf (s .plan) fs .refusal ≡ none = rw (s .same-entries) at (so .0) in
+      let text : textOf (s .plan) fs ≡ out = rw (s .same-entries) at (so .2) in (
+        s .otherLines,
+        write-accepted other (s .plan) (s .otherListed) (s .otherLines) (s .other-read) ∙ rw (accepts, text),
+      ),
+  λ w.
       let this = text-written one out n writes in
-      let that = text-written other out m writes-other in
-      let same = one-meaning (this .0) (that .0) _ _ _ _ n m out out (this .3) (that .3) .1 refl in
-      (cc (same .0, this .2, that .2), cc (same .1, this .2, that .2)),
+      let that = text-written other out (w .0) (w .1) in
+      let same = one-meaning out out (record { plan = _; entries = _; run = _; count = _; from = this .3 })
+      (record { plan = _; entries = _; run = _; count = _; from = that .3 }) .1 refl in
+      record {
+        plan = this .0;
+        listed = this .1;
+        lines = n;
+        one-read = this .2;
+        otherListed = that .1;
+        otherLines = w .0;
+        other-read = rw (sym (same .0)) at (that .2);
+        same-entries = same .1;
+      },
 )

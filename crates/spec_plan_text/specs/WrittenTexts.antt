@@ -42,6 +42,25 @@ pub record WrittenFrom (plan : Plan) (es : List Entry) (run : Outcome) (n : ℕ)
   pub report-is : run ≡ written (End.Accepted n) (front ++ reportEnd (End.Accepted n))
   pub report-again : runText text ≡ written (End.Accepted lines) (front ++ reportEnd (End.Accepted lines))
 
+-- A text was written: of a text, or of a plan's text with a schedule of records.
+pub record Written (text : List ℕ) : Type 0 where
+  pub plan : Plan
+  pub entries : List Entry
+  pub run : Outcome
+  pub count : ℕ
+  pub from : WrittenFrom plan entries run count text
+
+-- Two texts have the same meaning: both are accepted, with the same plan and the same single entries.
+pub record SameMeaning (one other : List ℕ) : Type 0 where
+  pub plan : Plan
+  pub listed : List Listed
+  pub lines : ℕ
+  pub one-read : reading Form.Schedule one ≡ accepted plan listed lines
+  pub otherListed : List Listed
+  pub otherLines : ℕ
+  pub other-read : reading Form.Schedule other ≡ accepted plan otherListed otherLines
+  pub same-entries : entriesIn listed ≡ entriesIn otherListed
+
 -- Entry lines are those of some single entries: they have the longest runs and those single entries, and no others do.
 pub record OnlyLongest (es : List Entry) : Type 0 where
   pub are-longest : Longest (longestRuns es)
