@@ -26,7 +26,7 @@ use Rattle.spec_format.specs.Sound.{Sound}
 use Rattle.spec_plan_text.specs.EntryLines.{EntryLine, call, run, entryBytes, entryLineBytes, stepBefore}
 use Rattle.spec_plan_text.specs.EntryLines.{entryBefore, longestRuns, singlesOf, singlesIn, plain}
 use Rattle.spec_plan_text.proofs.Runnable.{Runnable, AllRunnable}
-use Rattle.spec_plan_text.proofs.LongestRuns.{runnable-kinds, only-longest}
+use Rattle.spec_plan_text.proofs.LongestRuns.{runnable-kinds, one-uncounted, only-longest}
 use Rattle.spec_plan_text.proofs.Leads.{Leads, none-leads, leads-then, line-leads}
 use Rattle.spec_plan_text.proofs.PlanReadBack.{laid, counting}
 
@@ -75,7 +75,7 @@ module _ (plan : Plan) (good : Sound plan) where
       by-test (eqb k 1)
       (λ t.
       let one : k ≡ 1 = eqb-true k 1 t in
-      rw one
+      rw (one-uncounted card k one, one)
       (line-leads Form.Schedule (counting plan n) Kind.Step (card ∷ []) (fit .0, tt) refl
       (entry-clear Kind.Step (stepOf card) n 1 refl refl (omega arith) (omega arith))))
       (λ t.

@@ -1,7 +1,8 @@
--- What is written is the only text with the longest runs, is short, is read back, and is reported alike; and it is
--- written just where the run is accepted.
+-- What is written has the longest runs, is short, is read back, and is reported alike; it is written just where the run
+-- is accepted, and alike for texts of the same meaning.
 pub mod Runnable
 pub mod LongestRuns
+pub mod FullyJoined
 pub mod Length
 pub mod Fits
 pub mod Leads
@@ -11,5 +12,4 @@ pub mod ReadBack
 pub mod SameRun
 pub mod ReadEntries
 pub mod WrittenTexts
-pub mod FullyJoined
 mod Examples

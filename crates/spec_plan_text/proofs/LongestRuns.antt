@@ -16,10 +16,12 @@ use native.Mathlib.Omega.{arith}
 use borrow.Author.Tests.{eqb-true, eqb-false, eq-eqb, ne-eqb}
 use lib.Dec.{eqb}
 use lib.ListN.{length, length-replicate, replicate}
+use Rattle.spec_text.specs.Bytes.{bytes}
+use Rattle.spec_text.specs.WrittenLines.{lineOf}
 use Rattle.spec_text.proofs.Cases.{by-test}
 use Rattle.spec_format.specs.declared.Entry.{Entry}
 use Rattle.spec_format.specs.Plan.{Plan}
-use Rattle.spec_plan_text.specs.EntryLines.{EntryLine, call, run, SomeSteps, Longest}
+use Rattle.spec_plan_text.specs.EntryLines.{EntryLine, call, run, runBytes, SomeSteps, Longest}
 use Rattle.spec_plan_text.specs.EntryLines.{stepBefore, entryBefore, longestRuns, singlesIn, plain}
 use Rattle.spec_plan_text.specs.PlanText.{textOf}
 use Rattle.spec_plan_text.specs.WrittenTexts.{OnlyLongest}
@@ -49,6 +51,36 @@ AllSteps card (e ∷ es) = StepOf card e × AllSteps card es
 abbrev pub NotStep : ℕ → List Entry → Type 0
 NotStep card [] = Unit {0}
 NotStep card (e ∷ es) = StepOf card e → ⊥
+
+-- A run of one has no count.
+pub one-uncounted : (card n : ℕ) → n ≡ 1 → runBytes card n ≡ lineOf (bytes "step") (card ∷ [])
+one-uncounted card n one = rw one
+
+-- The single entries of entry lines with a step in front.
+step-singles :
+    (card : ℕ) (ls : List EntryLine)
+    → singlesIn (stepBefore card ls) ≡ record { kind = 1; first = card; second = 0 } ∷ singlesIn ls
+step-singles card [] = refl
+step-singles card (call job update ∷ ls) = refl
+step-singles card (run other n ∷ ls) =
+    by-test (eqb other card)
+    (λ t. rw (t, eqb-true other card t))
+    (λ t. rw t)
+
+-- The single entries of entry lines with a call or a step in front.
+entry-singles :
+    (e : Entry) (ls : List EntryLine) → (e .kind ≡ 0) ⊎ (e .kind ≡ 1)
+    → singlesIn (entryBefore e ls) ≡ plain e ∷ singlesIn ls
+entry-singles e ls (inl z) =
+    rw (eq-eqb (e .kind) 0 z)
+    (ap {B = List Entry} (λ k. record { kind = k; first = e .first; second = e .second } ∷ singlesIn ls) (sym z))
+entry-singles e ls (inr z) = rw z (step-singles (e .first) ls)
+
+-- The single entries of the entry lines of single entries.
+all-singles : (es : List Entry) → KnownKinds es → singlesIn (longestRuns es) ≡ map plain es
+unfolding longestRuns
+all-singles [] h = refl
+all-singles (e ∷ es) h = entry-singles e (longestRuns es) (h .0) ∙ rw (all-singles es (h .1))
 
 -- A call in front of entry lines with the longest runs.
 call-longest : (job update : ℕ) (ls : List EntryLine) → Longest ls → Longest (call job update ∷ ls)
@@ -81,32 +113,6 @@ all-longest (e ∷ es) =
     by-test (eqb (e .kind) 0)
     (λ t. rw t (call-longest (e .first) (e .second) (longestRuns es) (all-longest es)))
     (λ t. rw t (step-longest (e .first) (longestRuns es) (all-longest es)))
-
--- The single entries of entry lines with a step in front.
-step-singles :
-    (card : ℕ) (ls : List EntryLine)
-    → singlesIn (stepBefore card ls) ≡ record { kind = 1; first = card; second = 0 } ∷ singlesIn ls
-step-singles card [] = refl
-step-singles card (call job update ∷ ls) = refl
-step-singles card (run other n ∷ ls) =
-    by-test (eqb other card)
-    (λ t. rw (t, eqb-true other card t))
-    (λ t. rw t)
-
--- The single entries of entry lines with a call or a step in front.
-entry-singles :
-    (e : Entry) (ls : List EntryLine) → (e .kind ≡ 0) ⊎ (e .kind ≡ 1)
-    → singlesIn (entryBefore e ls) ≡ plain e ∷ singlesIn ls
-entry-singles e ls (inl z) =
-    rw (eq-eqb (e .kind) 0 z)
-    (ap {B = List Entry} (λ k. record { kind = k; first = e .first; second = e .second } ∷ singlesIn ls) (sym z))
-entry-singles e ls (inr z) = rw z (step-singles (e .first) ls)
-
--- The single entries of the entry lines of single entries.
-all-singles : (es : List Entry) → KnownKinds es → singlesIn (longestRuns es) ≡ map plain es
-unfolding longestRuns
-all-singles [] h = refl
-all-singles (e ∷ es) h = entry-singles e (longestRuns es) (h .0) ∙ rw (all-singles es (h .1))
 
 -- The unused number of a step does not matter to the entry lines.
 pub plain-longest : (es : List Entry) → longestRuns (map plain es) ≡ longestRuns es
