@@ -30,7 +30,12 @@ rows =
       entry = 35;
       said = "line 40, entry 35: refused with 14: no job is active on the card\n";
     }
-    ∷ record { number = 15; line = 0; entry = 0; said = "refused with 15: the report is longer than the buffer\n" }
+    ∷ record {
+      number = 15;
+      line = 0;
+      entry = 0;
+      said = "refused with 15: the buffer is too short for what is to be written\n";
+    }
     ∷ record {
       number = 16;
       line = 7;

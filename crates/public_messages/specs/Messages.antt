@@ -26,7 +26,7 @@ meanings =
     ∷ bytes "the job is active: its last call has not returned"
     ∷ bytes "the card is not below P"
     ∷ bytes "no job is active on the card"
-    ∷ bytes "the report is longer than the buffer"
+    ∷ bytes "the buffer is too short for what is to be written"
     ∷ bytes "a run has from 1 to 4,000 steps"
     ∷ bytes "the update's number is not the next one, counted from 0"
     ∷ []

@@ -45,7 +45,7 @@ fn put_meaning(buffer: &mut [u8], at: usize, number: usize) -> usize
             b"the job is active: its last call has not returned",
             b"the card is not below P",
             b"no job is active on the card",
-            b"the report is longer than the buffer",
+            b"the buffer is too short for what is to be written",
             b"a run has from 1 to 4,000 steps",
             b"the update's number is not the next one, counted from 0",
         ],

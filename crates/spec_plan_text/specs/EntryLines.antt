@@ -15,7 +15,7 @@ pub data EntryLine : Type 0 where
   call : ℕ → ℕ → EntryLine
   run : ℕ → ℕ → EntryLine
 
--- A line of numbers: a run of one has no count.
+-- The bytes of a run of n steps: a run of one has no count.
 abbrev pub runBytes : ℕ → ℕ → List ℕ
 runBytes card n = cond (eqb n 1) (lineOf (bytes "step") (card ∷ [])) (lineOf (bytes "step") (card ∷ n ∷ []))
 

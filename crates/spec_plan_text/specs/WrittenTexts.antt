@@ -42,7 +42,8 @@ pub record WrittenFrom (plan : Plan) (es : List Entry) (run : Outcome) (n : ℕ)
   pub report-is : run ≡ written (End.Accepted n) (front ++ reportEnd (End.Accepted n))
   pub report-again : runText text ≡ written (End.Accepted lines) (front ++ reportEnd (End.Accepted lines))
 
--- A text was written: of a text, or of a plan's text with a schedule of records.
+-- A text was written, with what it was written from: what text-written gives of a text, and schedule-written of a
+-- plan's text with a schedule of records.
 pub record Written (text : List ℕ) : Type 0 where
   pub plan : Plan
   pub entries : List Entry
