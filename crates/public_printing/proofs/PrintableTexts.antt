@@ -3,14 +3,14 @@
 -- Assumes nothing.
 use Prim.Native.Nat.{ℕ, _≤_, _<_}
 use mathlib.Core.Path.{_≡_, refl, sym, ap, subst, _∙_}
-use mathlib.Core.List.{List, map}
+use mathlib.Core.List.{List}
 use native.Mathlib.Omega.{arith}
-use lib.ListN.{length, length-map}
+use lib.ListN.{length}
 use Rattle.spec_format.specs.declared.Entry.{Entry}
 use Rattle.spec_format.specs.declared.Form.{Form}
-use Rattle.spec_format.specs.Plan.{Plan, Listed}
+use Rattle.spec_format.specs.Plan.{Plan, entriesIn}
 use Rattle.spec_format.specs.Reading.{Reading, refusal, accepted, reading}
-use Rattle.spec_format.proofs.Sound.{accepted-sound, accepted-few}
+use Rattle.spec_format.proofs.Sound.{accepted-sound, accepted-few, entries-many}
 use Rattle.spec_format.proofs.LineCounts.{low-count, low-lines, low-refused}
 use Rattle.spec_machine.specs.History.{runOf}
 use Rattle.spec_machine.proofs.EveryRun.{always}
@@ -39,9 +39,9 @@ end-small text = go (reading Form.Schedule text) refl
     go : (r : Reading) → reading Form.Schedule text ≡ r → SmallEnd (endOfOutcome (ofReading r))
     go (refusal f n) e = (low-refused Form.Schedule text f n e, omega arith)
     go (accepted plan ls n) e =
-        let es : List Entry = map (λ (l : Listed). l .entry) ls in
+        let es : List Entry = entriesIn ls in
         let few = accepted-few Form.Schedule text plan ls n e in
-        let many : length es ≡ length ls = length-map ls (λ (l : Listed). l .entry) in
+        let many : length es ≡ length ls = entries-many ls in
         let short : length (runOf plan es .history) ≤ length es =
         always plan (accepted-sound Form.Schedule text plan ls n e) es .layers .told .short in (
           end-low (runOf plan es .refusal) _ _ n 65537

@@ -383,7 +383,7 @@ step-parsed :
     (ns : List ℕ) → AllFit ns → stepNumbers (map decimal ns) ≡ length ns → (s : ℕ)
     → parsedOf s (stepLine ns) ≡ record { ended = true; kind = Kind.Step; directive = directive Kind.Step ns }
 unfolding parsedOf kindOf
-step-parsed ns fit many s = rw (numbers-fields (bytes "step") ns step-plain fit, many, numbers-written ns fit)
+step-parsed ns fit many s = rw (numbers-fields (bytes "step") ns step-plain, many, numbers-written ns fit)
 
 -- The lines of n lines `step card`.
 step-lines :
@@ -393,7 +393,7 @@ step-lines card zero rest fits = refl
 step-lines card (suc n) rest fits =
     rw (
       append-assoc (lineOf (bytes "step") (card ∷ [])) (stepLines card n) rest,
-      numbers-line (bytes "step") (card ∷ []) (stepLines card n ++ rest) step-plain (fits, tt),
+      numbers-line (bytes "step") (card ∷ []) (stepLines card n ++ rest) step-plain,
       step-lines card n rest fits,
     )
 
@@ -409,7 +409,7 @@ run-lines :
 run-lines before behind card n whole fit =
     rw (
       whole-append before (runLine card n ++ behind) whole,
-      numbers-line (bytes "step") (card ∷ n ∷ []) behind step-plain fit,
+      numbers-line (bytes "step") (card ∷ n ∷ []) behind step-plain,
     )
 
 -- The lines of the text with the run say the same as those of the text with the steps.

@@ -13,7 +13,7 @@ use mathlib.Core.Bool.{Bool, true, false, cond, not, _&&_, _||_, true≢false}
 use mathlib.Core.List.{List, [], _∷_, _++_}
 use mathlib.Core.Option.{Option, none, some}
 use lib.Dec.{ltb, leb, eqb}
-use lib.ListN.{length, getD, length-append, length-replicate, List·getD-append, List·getD-eq-default}
+use lib.ListN.{length, getD, length-append, length-map, length-replicate, List·getD-append, List·getD-eq-default}
 use lib.Seq.{getD-at}
 use borrow.Author.Tests.{ltb-true, ltb-false, leb-true, leb-false, eqb-true, eq-eqb, not-true, not-false}
 use Rattle.spec_text.specs.Lines.{Line, lines, fields, numbers, andThen}
@@ -27,7 +27,7 @@ use Rattle.spec_format.specs.declared.Sizes.{Sizes}
 use Rattle.spec_format.specs.declared.Job.{Job}
 use Rattle.spec_format.specs.declared.Move.{Move}
 use Rattle.spec_format.specs.declared.Entry.{Entry}
-use Rattle.spec_format.specs.Plan.{Plan, Listed, any, named, blocksWritten}
+use Rattle.spec_format.specs.Plan.{Plan, Listed, entriesIn, any, named, blocksWritten}
 use Rattle.spec_format.specs.Kinds.{kindOf}
 use Rattle.spec_format.specs.ParsedLines.{Directive, plan, job, block, update, move, entry}
 use Rattle.spec_format.specs.ParsedLines.{numberCount, numbersFor, directiveOf, parsedFrom, parsedOf}
@@ -626,3 +626,7 @@ pub accepted-few :
     (form : Form) (text : List ℕ) (p : Plan) (es : List Listed) (n : ℕ) → reading form text ≡ accepted p es n
     → length es ≤ mostEntries
 accepted-few form text p es n e = (rw e at (reading-sound form text)) .1
+
+-- There are as many single entries as are listed.
+pub entries-many : (ls : List Listed) → length (entriesIn ls) ≡ length ls
+entries-many ls = length-map ls (λ (l : Listed). l .entry)

@@ -10,11 +10,11 @@
 use Prim.Native.Nat.{ℕ, _<_}
 use mathlib.Core.Path.{_≡_, subst}
 use mathlib.Core.Bool.{false}
-use mathlib.Core.List.{List, map}
+use mathlib.Core.List.{List}
 use lib.ListN.{take}
 use Rattle.spec_format.specs.declared.Form.{Form}
 use Rattle.spec_format.specs.declared.Entry.{Entry}
-use Rattle.spec_format.specs.Plan.{Plan, Listed}
+use Rattle.spec_format.specs.Plan.{Plan, Listed, entriesIn}
 use Rattle.spec_format.specs.Sound.{Sound}
 use Rattle.spec_format.specs.Reading.{reading, accepted}
 use Rattle.spec_format.proofs.Sound.{accepted-sound}
@@ -47,9 +47,9 @@ demand3 form text plan listed lines read es =
 -- So it holds of the entries that a text itself has.
 pub demand3-text :
     (form : Form) (text : List ℕ) (plan : Plan) (listed : List Listed) (lines : ℕ)
-    → reading form text ≡ accepted plan listed lines → Demand3 plan (map (λ (l : Listed). l .entry) listed)
+    → reading form text ≡ accepted plan listed lines → Demand3 plan (entriesIn listed)
 demand3-text form text plan listed lines read =
-    demand3 form text plan listed lines read (map (λ (l : Listed). l .entry) listed)
+    demand3 form text plan listed lines read (entriesIn listed)
 
 -- The stock rule: after any entries, if no update is decided and uncommitted, each of the B + NC block numbers stands
 -- once in the bank and the copy lists, and none is missing.

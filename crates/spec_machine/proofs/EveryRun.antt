@@ -7,8 +7,8 @@ use mathlib.Core.Path.{_≡_, refl, sym, _∙_, ap, subst}
 use mathlib.Core.Bool.{false, true≢false}
 use mathlib.Core.List.{List, [], _∷_, _++_, foldl, append-nil, append-assoc}
 use mathlib.Core.Option.{Option, none, some}
-use native.Mathlib.Omega.{arith}
 use lib.ListN.{length}
+use Rattle.spec_text.proofs.Cases.{some-none}
 use Rattle.spec_format.specs.declared.Entry.{Entry}
 use Rattle.spec_format.specs.Plan.{Plan}
 use Rattle.spec_format.specs.Sound.{Sound}
@@ -89,10 +89,6 @@ pub record Inv (plan : Plan) (es : List Entry) (r : Run) : Type 0 where
   pub proper : (k : ℕ) → Proper (sharedIn plan (r .machine) .stat k)
   pub layers : Layers plan es (r .history) (stateIn plan (r .machine))
   pub in-step : r .refusal ≡ none → length (r .history) ≡ length es
-
--- A refusal is one.
-some-none : {x : Refusal} → some x ≡ none → ⊥
-some-none e = let z : _≡_ {A = ℕ} 0 1 = cc in omega arith
 
 -- A place that is not active is Idle.
 inactive : (pl : Place) → isActive pl ≡ false → pl ≡ Place.Idle

@@ -95,42 +95,49 @@ all-joined : fullyJoined (fieldsIn (bytes "step\t0\t30\ncall\t0\t0\nstep\t0\t3\n
 unfolding lines fields
 all-joined = refl
 
--- The largest sizes, and a plan of them with the largest words in its first block.
+-- The largest sizes.
 abbrev mostSizes : Sizes
 mostSizes = record { cards = 8; jobs = 16; blocks = 16; words = 16; copies = 8 }
 
+-- A plan of them with the largest words in its first block.
 abbrev longWords : Plan
 longWords = record { sizes = mostSizes; jobs = []; words = replicate 16 4294967295; updates = [] }
 
--- Each line is as long as its bound says.
+-- Each bound of a line is reached: that of the plan line,
 plan-reached : length (planLine mostSizes) ≡ longestPlanLine
 unfolding decimal
 plan-reached = refl
 
+-- of a job line,
 job-reached : length (jobLine (record { card = 7; priority = 255 })) ≡ longestJobLine
 unfolding decimal
 job-reached = refl
 
+-- of a block line,
 block-reached : length (blockLine longWords 0) ≡ longestBlockLine
 unfolding decimal
 block-reached = refl
 
+-- of an update line,
 update-reached : length (updateLines 31 []) ≡ longestUpdateLine
 unfolding decimal
 update-reached = refl
 
+-- of a move line,
 move-reached : length (moveLine (Move.Add 255 255 4294967295)) ≡ longestMoveLine
 unfolding decimal
 move-reached = refl
 
+-- and of the line of a single entry.
 entry-reached : length (entryBytes (call 15 31)) ≡ longestEntryLine
 unfolding decimal
 entry-reached = refl
 
--- The sums.
+-- The sum for the plan,
 plan-sum : longestPlanText ≡ 15186
 plan-sum = refl
 
+-- and for the whole text.
 text-sum : longestText ≡ 59186
 text-sum = refl
 

@@ -8,21 +8,21 @@
 -- decimal form is `1` alone. Both of decimal forms holds however large the numbers are: they are worth the numbers.
 --
 -- Assumes nothing.
-use Prim.Native.Nat.{ℕ, zero, suc, _+_, _-_, _*_, _/_, _%_, _<_}
-use native.Mathlib.Omega.{arith}
-use mathlib.Core.Path.{_≡_, refl, sym, _∙_, ap}
+use Prim.Native.Nat.{ℕ, zero, suc}
+use mathlib.Core.Path.{_≡_, refl, _∙_}
 use mathlib.Core.Logic.{_≢_}
 use mathlib.Core.Bool.{true, false, cond}
 use mathlib.Core.List.{List, [], _∷_, _++_, map, append-assoc}
-use lib.Dec.{ltb, eqb}
+use lib.Dec.{eqb}
 use lib.ListN.{length, getD}
-use borrow.Author.Tests.{ne-eqb, eqb-true, eqb-false}
+use borrow.Author.Tests.{eqb-true, eqb-false}
 use Rattle.spec_text.specs.Bytes.{bytes}
-use Rattle.spec_text.specs.Decimal.{digits, decimal}
-use Rattle.spec_text.specs.Numbers.{value}
+use Rattle.spec_text.specs.Decimal.{decimal}
 use Rattle.spec_text.specs.WrittenLines.{lineOf}
 use Rattle.spec_text.proofs.Cases.{by-test, both}
-use Rattle.spec_text.proofs.WrittenLines.{lacks, lacks-append, Plain, AllPlain, fields-written, line-written}
+use Rattle.spec_text.proofs.Decimal.{decimal-of-one}
+use Rattle.spec_text.proofs.WrittenLines.{numbers-line, numbers-fields}
+use Rattle.spec_format.specs.declared.Kind.{Kind}
 use Rattle.spec_format.specs.declared.Entry.{Entry}
 use Rattle.spec_format.specs.declared.Sizes.{Sizes}
 use Rattle.spec_format.specs.declared.Job.{Job}
@@ -39,44 +39,7 @@ use Rattle.spec_plan_text.specs.PlanText.{updateLines, jobLines, opening
 use Rattle.spec_plan_text.specs.PlanText.{textOf}
 use Rattle.spec_plan_text.specs.WrittenTexts.{WrittenFrom, fieldsIn, sameCard, countsOne, fullyJoined}
 use Rattle.spec_plan_text.proofs.LongestRuns.{all-longest}
-
--- What digits with one more at the end are worth.
-worth-last : (n : ℕ) (s : List ℕ) (b : ℕ) → value n (s ++ (b ∷ [])) ≡ value n s * 10 + (b - 48)
-worth-last n [] b = refl
-worth-last n (c ∷ s) b = worth-last (n * 10 + (c - 48)) s b
-
--- The digits of a number are worth it, however large it is,
-digits-worth : (k n : ℕ) → value 0 (digits k n) ≡ n
-digits-worth zero n = omega arith
-digits-worth (suc k) n =
-    by-test (ltb n 10)
-    (λ t. rw t (omega arith))
-    (λ t. rw (t, worth-last 0 (digits k (n / 10)) (48 + n % 10), digits-worth k (n / 10)) (omega arith))
-
--- and hold no byte below 48.
-digits-high : (x : ℕ) → x < 48 → (k n : ℕ) → lacks x (digits k n) ≡ true
-digits-high x h zero n = rw (ne-eqb (48 + n) x (omega arith))
-digits-high x h (suc k) n =
-    by-test (ltb n 10)
-    (λ t. rw (t, ne-eqb (48 + n) x (omega arith)))
-    (λ t.
-    rw t
-    (lacks-append x (digits k (n / 10)) ((48 + n % 10) ∷ []) (digits-high x h k (n / 10))
-    (rw (ne-eqb (48 + n % 10) x (omega arith)))))
-
--- So decimal forms are fields of a line,
-all-plain : (ns : List ℕ) → AllPlain (map decimal ns)
-unfolding decimal
-all-plain [] = tt
-all-plain (n ∷ ns) = (
-  record { no-tab = digits-high 9 (omega arith) 9 n; no-feed = digits-high 10 (omega arith) 9 n },
-  all-plain ns,
-)
-
--- and two of the same bytes are of one number.
-decimal-of-one : (n m : ℕ) → decimal n ≡ decimal m → n ≡ m
-unfolding decimal
-decimal-of-one n m e = sym (digits-worth 9 n) ∙ ap (value 0) e ∙ digits-worth 9 m
+use Rattle.spec_plan_text.proofs.Leads.{wordOf, word-plain}
 
 -- Lists that hold the same bytes are the same.
 same-bytes : (s t : List ℕ) → sameBytes s t ≡ true → s ≡ t
@@ -101,13 +64,10 @@ decimal-one = refl
 
 -- The fields of a text that begins with a written line: those that were written, and those of the lines behind it.
 line-fields :
-    (first ns rest : List ℕ) → Plain first
-    → fieldsIn (lineOf first ns ++ rest) ≡ (first ∷ map decimal ns) ∷ fieldsIn rest
-line-fields first ns rest p =
-    rw (
-      line-written first (map decimal ns) rest p (all-plain ns),
-      fields-written first (map decimal ns) p (all-plain ns),
-    )
+    (k : Kind) (ns rest : List ℕ)
+    → fieldsIn (lineOf (wordOf k) ns ++ rest) ≡ (wordOf k ∷ map decimal ns) ∷ fieldsIn rest
+line-fields k ns rest =
+    rw (numbers-line (wordOf k) ns rest (word-plain k), numbers-fields (wordOf k) ns (word-plain k))
 
 -- A line whose first field is not `step` is no step of a card,
 other-card :
@@ -135,9 +95,8 @@ abbrev Passes : List ℕ → Type 0
 Passes text = (rest : List ℕ) → fullyJoined (fieldsIn (text ++ rest)) ≡ fullyJoined (fieldsIn rest)
 
 -- A written line with such a first field.
-line-passes : (first ns : List ℕ) → Plain first → sameBytes first (bytes "step") ≡ false → Passes (lineOf first ns)
-line-passes first ns p e rest =
-    rw (line-fields first ns rest p) (other-line first (map decimal ns) (fieldsIn rest) e)
+line-passes : (k : Kind) (ns : List ℕ) → sameBytes (wordOf k) (bytes "step") ≡ false → Passes (lineOf (wordOf k) ns)
+line-passes k ns e rest = rw (line-fields k ns rest) (other-line (wordOf k) (map decimal ns) (fieldsIn rest) e)
 
 -- Bytes behind each other.
 passes-then : (s t : List ℕ) → Passes s → Passes t → Passes (s ++ t)
@@ -150,18 +109,15 @@ joined-pass (suc n) part each = passes-then (joined n part) (part n) (joined-pas
 
 -- A move's line.
 move-passes : (m : Move) → Passes (moveLine m)
-move-passes (Move.Copy d a) =
-    line-passes (bytes "copy") (d ∷ a ∷ []) (record { no-tab = refl; no-feed = refl }) refl
-move-passes (Move.Set d k) =
-    line-passes (bytes "set") (d ∷ k ∷ []) (record { no-tab = refl; no-feed = refl }) refl
-move-passes (Move.Add d a k) =
-    line-passes (bytes "add") (d ∷ a ∷ k ∷ []) (record { no-tab = refl; no-feed = refl }) refl
+move-passes (Move.Copy d a) = line-passes Kind.Copy (d ∷ a ∷ []) refl
+move-passes (Move.Set d k) = line-passes Kind.Set (d ∷ k ∷ []) refl
+move-passes (Move.Add d a k) = line-passes Kind.Add (d ∷ a ∷ k ∷ []) refl
 
 -- An update with its moves.
 update-passes : (n : ℕ) (ms : List Move) → Passes (updateLines n ms)
 update-passes n ms =
     passes-then (lineOf (bytes "update") (n ∷ [])) (joined (length ms) (λ i. moveLine (moveIn ms i)))
-    (line-passes (bytes "update") (n ∷ []) (record { no-tab = refl; no-feed = refl }) refl)
+    (line-passes Kind.Update (n ∷ []) refl)
     (joined-pass (length ms) (λ i. moveLine (moveIn ms i)) (λ i. move-passes (moveIn ms i)))
 
 -- The text of a plan.
@@ -170,16 +126,15 @@ unfolding planText
 plan-passes plan =
     let s : Sizes = plan .sizes in
     passes-then (planLine s) (jobLines plan ++ (openingBlockLines plan ++ allUpdateLines plan))
-    (line-passes (bytes "plan") (s .cards ∷ s .jobs ∷ s .blocks ∷ s .words ∷ s .copies ∷ [])
-    (record { no-tab = refl; no-feed = refl }) refl)
+    (line-passes Kind.Plan (s .cards ∷ s .jobs ∷ s .blocks ∷ s .words ∷ s .copies ∷ []) refl)
     (passes-then (jobLines plan) (openingBlockLines plan ++ allUpdateLines plan)
     (joined-pass (plan .sizes .jobs) (λ k. jobLine (jobIn plan k))
     (λ k.
     let j : Job = jobIn plan k in
-    line-passes (bytes "job") (j .card ∷ j .priority ∷ []) (record { no-tab = refl; no-feed = refl }) refl))
+    line-passes Kind.Job (j .card ∷ j .priority ∷ []) refl))
     (passes-then (openingBlockLines plan) (allUpdateLines plan)
     (joined-pass (plan .sizes .blocks) (blockLine plan)
-    (λ b. line-passes (bytes "block") (blockWords plan b) (record { no-tab = refl; no-feed = refl }) refl))
+    (λ b. line-passes Kind.Block (blockWords plan b) refl))
     (joined-pass (length (plan .updates)) (λ u. updateLines u (getD (plan .updates) u []))
     (λ u. update-passes u (getD (plan .updates) u [])))))
 
@@ -196,11 +151,11 @@ entryFields (run card n) = bytes "step" ∷ decimal card ∷ countField n
 entry-fields :
     (l : EntryLine) (rest : List ℕ) → fieldsIn (entryBytes l ++ rest) ≡ entryFields l ∷ fieldsIn rest
 entry-fields (call job update) rest =
-    line-fields (bytes "call") (job ∷ update ∷ []) rest (record { no-tab = refl; no-feed = refl })
+    line-fields Kind.Call (job ∷ update ∷ []) rest
 entry-fields (run card n) rest =
     by-test (eqb n 1)
-    (λ t. rw t (line-fields (bytes "step") (card ∷ []) rest (record { no-tab = refl; no-feed = refl })))
-    (λ t. rw t (line-fields (bytes "step") (card ∷ n ∷ []) rest (record { no-tab = refl; no-feed = refl })))
+    (λ t. rw t (line-fields Kind.Step (card ∷ []) rest))
+    (λ t. rw t (line-fields Kind.Step (card ∷ n ∷ []) rest))
 
 -- and those of entry lines are.
 entries-fields : (ls : List EntryLine) → fieldsIn (entryLineBytes ls) ≡ map entryFields ls

@@ -44,7 +44,7 @@ wordOf Kind.Step = bytes "step"
 wordOf Kind.Unknown = []
 
 -- It is a field of a line,
-word-plain : (k : Kind) → Plain (wordOf k)
+pub word-plain : (k : Kind) → Plain (wordOf k)
 word-plain Kind.Plan = record { no-tab = refl; no-feed = refl }
 word-plain Kind.Job = record { no-tab = refl; no-feed = refl }
 word-plain Kind.Block = record { no-tab = refl; no-feed = refl }
@@ -80,7 +80,7 @@ line-parsed :
     → parsedOf s (writtenLine (wordOf k) (map decimal ns)) ≡ saying k ns
 unfolding parsedOf
 line-parsed s k ns fit many =
-    rw (numbers-fields (wordOf k) ns (word-plain k) fit, word-kind k, many, numbers-written ns fit)
+    rw (numbers-fields (wordOf k) ns (word-plain k), word-kind k, many, numbers-written ns fit)
 
 -- The single entries of a run, without their line.
 run-singles : (e : Entry) (n k : ℕ) → entriesIn (replicate k (record { entry = e; line = n })) ≡ replicate k e
@@ -159,10 +159,10 @@ line-leads form d k ns fit many clear =
     let x = directive k ns in
     record {
       plans = λ rest.
-          rw (numbers-line (wordOf k) ns rest (word-plain k) fit, is, clear, numbered-after (d .lines) d x)
+          rw (numbers-line (wordOf k) ns rest (word-plain k), is, clear, numbered-after (d .lines) d x)
           (same-plan form (after d x) (d .lines + 1) 1 (omega arith) (omega arith) (lines rest));
       lists = λ s m n rest.
-          rw (numbers-line (wordOf k) ns rest (word-plain k) fit)
+          rw (numbers-line (wordOf k) ns rest (word-plain k))
           (map-append _ (listed m (parsedOf s l .directive)) _
           ∙ rw (line-listed s (d .plan .sizes .words) m l, is, listed-said m x, same-singles s (m + 1) n (lines rest)));
     }

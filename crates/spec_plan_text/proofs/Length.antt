@@ -9,7 +9,6 @@
 -- Assumes a sound plan, and entries that it can run.
 use Prim.Native.Nat.{ℕ, zero, suc, _+_, _*_, _≤_, _<_}
 use mathlib.Core.Path.{_≡_, _∙_, ap}
-use mathlib.Core.Logic.{inl, inr}
 use mathlib.Core.Bool.{false}
 use mathlib.Core.List.{List, [], _∷_, map}
 use native.Mathlib.Nat.{mul-le-mul}
@@ -32,13 +31,13 @@ use Rattle.spec_format.specs.Sound.{Sound}
 use Rattle.spec_report.specs.Report.{joined}
 use Rattle.spec_report.proofs.JoinedLengths.{append-short, joined-short}
 use Rattle.spec_plan_text.specs.EntryLines.{EntryLine, call, run, runBytes, entryBytes, entryLineBytes}
-use Rattle.spec_plan_text.specs.EntryLines.{stepBefore, entryBefore, longestRuns, singlesOf, singlesIn, plain}
+use Rattle.spec_plan_text.specs.EntryLines.{longestRuns, singlesOf, singlesIn, plain}
 use Rattle.spec_plan_text.specs.PlanText.{planLine, jobLine, blockWords, blockLine, moveLine, moveIn, updateLines}
 use Rattle.spec_plan_text.specs.PlanText.{jobLines, openingBlockLines, allUpdateLines, planText, textOf}
 use Rattle.spec_plan_text.specs.LongestText.{longestPlanLine, longestJobLine, longestBlockLine}
 use Rattle.spec_plan_text.specs.LongestText.{longestUpdateLine, longestMoveLine, longestEntryLine}
 use Rattle.spec_plan_text.specs.LongestText.{longestUpdate, longestPlanText, longestText}
-use Rattle.spec_plan_text.proofs.Runnable.{Runnable, AllRunnable}
+use Rattle.spec_plan_text.proofs.Runnable.{AllRunnable, RunnableLine, RunnableLines, runnable-lines}
 use Rattle.spec_plan_text.proofs.LongestRuns.{runnable-kinds, only-longest}
 
 -- Numbers have at most so many digits each. There may be fewer numbers.
@@ -200,16 +199,6 @@ module _ (plan : Plan) (ok : Sound plan) where
       (append-short (openingBlockLines plan) (allUpdateLines plan) (16 * longestBlockLine) _ blocks-short
       updates-short))
 
--- The numbers of an entry line are small, and it is no empty run.
-abbrev SmallLine : EntryLine → Type 0
-SmallLine (call job update) = (job < 16) × (update < 32)
-SmallLine (run card n) = (card < 8) × (1 ≤ n)
-
--- So are those of all entry lines.
-abbrev SmallLines : List EntryLine → Type 0
-SmallLines [] = Unit {0}
-SmallLines (l ∷ ls) = SmallLine l × SmallLines ls
-
 -- A run takes no more bytes than as many lines of single entries may.
 run-short : (card n : ℕ) → card < 8 → 1 ≤ n → length (runBytes card n) ≤ n * longestEntryLine
 run-short card n small some-step =
@@ -230,58 +219,39 @@ run-short card n small some-step =
           (decimal-within 0 card (omega arith), (decimal-most n, tt)),
     )))
 
--- An entry line takes no more bytes than its single entries may.
-entry-line-short :
-    (l : EntryLine) → SmallLine l → length (entryBytes l) ≤ length (singlesOf l) * longestEntryLine
-entry-line-short (call job update) h =
-    line-short (bytes "call") (2 ∷ 2 ∷ []) (job ∷ update ∷ [])
-    (decimal-within 1 job (omega arith), (decimal-within 1 update (omega arith), tt))
-entry-line-short (run card n) h = rw length-replicate (run-short card n (h .0) (h .1))
-
--- Nor do entry lines.
-entry-lines-short :
-    (ls : List EntryLine) → SmallLines ls → length (entryLineBytes ls) ≤ length (singlesIn ls) * longestEntryLine
-entry-lines-short [] h = omega arith
-entry-lines-short (l ∷ ls) h =
-    omega (
-      arith,
-      length-append (entryBytes l) (entryLineBytes ls),
-      length-append (singlesOf l) (singlesIn ls),
-      entry-line-short l (h .0),
-      entry-lines-short ls (h .1),
-    )
-
--- A step of a card in front of entry lines.
-step-small : (card : ℕ) (ls : List EntryLine) → card < 8 → SmallLines ls → SmallLines (stepBefore card ls)
-step-small card [] small h = ((small, omega arith), tt)
-step-small card (call job update ∷ ls) small h = ((small, omega arith), h)
-step-small card (run other n ∷ ls) small h =
-    by-test (eqb other card)
-    (λ t. rw t ((small, omega arith), h .1))
-    (λ t. rw t ((small, omega arith), h))
-
 module _ (plan : Plan) (ok : Sound plan) where
-  -- An entry that the plan can run in front of entry lines.
-  entry-small :
-      (e : Entry) (ls : List EntryLine) → Runnable plan e → SmallLines ls → SmallLines (entryBefore e ls)
-  entry-small e ls (inl r) h =
-      rw (r .0) ((omega (arith, ok .jobs), omega (arith, ok .few-updates)), h)
-  entry-small e ls (inr r) h = rw (r .0) (step-small (e .first) ls (omega (arith, ok .cards)) h)
+  -- An entry line takes no more bytes than its single entries may.
+  entry-line-short :
+      (l : EntryLine) → RunnableLine plan l → length (entryBytes l) ≤ length (singlesOf l) * longestEntryLine
+  entry-line-short (call job update) h =
+      line-short (bytes "call") (2 ∷ 2 ∷ []) (job ∷ update ∷ []) (
+        decimal-within 1 job (omega (arith, ok .jobs)),
+        (decimal-within 1 update (omega (arith, ok .few-updates)), tt),
+      )
+  entry-line-short (run card n) h = rw length-replicate (run-short card n (omega (arith, ok .cards)) (h .1))
 
-  -- The entry lines of entries that the plan can run.
-  all-small : (es : List Entry) → AllRunnable plan es → SmallLines (longestRuns es)
-  unfolding longestRuns
-  all-small [] h = tt
-  all-small (e ∷ es) h = entry-small e (longestRuns es) (h .0) (all-small es (h .1))
+  -- Nor do entry lines.
+  entry-lines-short :
+      (ls : List EntryLine) → RunnableLines plan ls
+      → length (entryLineBytes ls) ≤ length (singlesIn ls) * longestEntryLine
+  entry-lines-short [] h = omega arith
+  entry-lines-short (l ∷ ls) h =
+      omega (
+        arith,
+        length-append (entryBytes l) (entryLineBytes ls),
+        length-append (singlesOf l) (singlesIn ls),
+        entry-line-short l (h .0),
+        entry-lines-short ls (h .1),
+      )
 
-  -- They take at most so many bytes for each entry.
+  -- Those of entries take at most so many bytes for each entry.
   entries-short :
       (es : List Entry) → AllRunnable plan es
       → length (entryLineBytes (longestRuns es)) ≤ length es * longestEntryLine
   entries-short es h =
       let many : length (singlesIn (longestRuns es)) ≡ length es
       = ap length (only-longest es (runnable-kinds plan es h) .same-singles) ∙ length-map es plain in
-      rw many at (entry-lines-short (longestRuns es) (all-small es h))
+      rw many at (entry-lines-short (longestRuns es) (runnable-lines plan es h))
 
 -- No text of a sound plan and at most 4,000 entries that it can run is longer than longestText.
 pub text-short :

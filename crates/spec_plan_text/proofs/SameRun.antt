@@ -17,7 +17,7 @@ use native.Mathlib.Omega.{arith}
 use borrow.Author.Tests.{eqb-true, eq-eqb, not-true, not-false, leb-false, ltb-true, ltb-false}
 use lib.Dec.{eqb, leb, ltb}
 use lib.ListN.{length, getD, List·getD-eq-default, List·getD-map}
-use Rattle.spec_text.proofs.Cases.{by-test, neither}
+use Rattle.spec_text.proofs.Cases.{by-test, neither, some-none}
 use Rattle.spec_format.specs.declared.Entry.{Entry}
 use Rattle.spec_format.specs.Plan.{Plan, tabulate}
 use Rattle.spec_format.proofs.Tabulated.{length-tabulate, getD-tabulate}
@@ -40,10 +40,6 @@ use Rattle.spec_report.specs.Outcomes.{isOther, otherFrom}
 use Rattle.spec_plan_text.specs.EntryLines.{plain}
 use Rattle.spec_plan_text.proofs.Runnable.{Runnable, AllRunnable}
 use Rattle.spec_plan_text.proofs.LongestRuns.{KnownKinds}
-
--- Something is not nothing.
-some-none : {A : Type 0} {x : A} → some x ≡ none → ⊥
-some-none e = let z : _≡_ {A = ℕ} 0 1 = cc in omega arith
 
 -- A call and a step are of no other kind.
 not-other : (e : Entry) → (e .kind ≡ 0) ⊎ (e .kind ≡ 1) → isOther e ≡ false

@@ -16,7 +16,7 @@ use mathlib.Core.Option.{Option, none, some}
 use native.Mathlib.Omega.{arith}
 use borrow.Author.Tests.{ltb-false}
 use lib.Dec.{ltb}
-use lib.ListN.{length, length-map}
+use lib.ListN.{length}
 use Rattle.spec_text.proofs.Cases.{by-test}
 use Rattle.spec_format.specs.declared.Entry.{Entry}
 use Rattle.spec_format.specs.declared.Form.{Form}
@@ -24,7 +24,7 @@ use Rattle.spec_format.specs.Plan.{Plan, Listed, entriesIn}
 use Rattle.spec_format.specs.Faults.{mostEntries}
 use Rattle.spec_format.specs.Reading.{Reading, refusal, accepted, reading}
 use Rattle.spec_format.specs.Sound.{Sound}
-use Rattle.spec_format.proofs.Sound.{accepted-sound, accepted-few}
+use Rattle.spec_format.proofs.Sound.{accepted-sound, accepted-few, entries-many}
 use Rattle.spec_machine.specs.declared.Refusal.{Refusal}
 use Rattle.spec_machine.specs.History.{runOf}
 use Rattle.spec_report.specs.declared.End.{End}
@@ -218,7 +218,7 @@ text-written text out n = go (reading Form.Schedule text) refl
     go (refusal f k) read e = absurd (not-both e)
     go (accepted plan ls k) read e =
         let few : length (entriesIn ls) ≤ mostEntries =
-        omega (arith, accepted-few Form.Schedule text plan ls k read, length-map ls (λ (l : Listed). l .entry)) in
+        omega (arith, accepted-few Form.Schedule text plan ls k read, entries-many ls) in
         let so =
         written-after plan (entriesIn ls) (accepted-sound Form.Schedule text plan ls k read)
         (accepted-fits Form.Schedule text plan ls k read) (read-kinds Form.Schedule text plan ls k read) few

@@ -2,14 +2,14 @@
 -- entries stand in the text or come as records. Assumes nothing.
 use Prim.Native.Nat.{ℕ, _+_, _≤_}
 use mathlib.Core.Path.{_≡_, _∙_, ap, subst}
-use mathlib.Core.List.{List, map}
+use mathlib.Core.List.{List}
 use mathlib.Core.Option.{none}
 use borrow.Author.Tests.{le-ltb}
 use lib.ListN.{length}
 use lib.Seq.{take-length}
 use Rattle.spec_format.specs.declared.Entry.{Entry}
 use Rattle.spec_format.specs.declared.Form.{Form}
-use Rattle.spec_format.specs.Plan.{Plan, Listed}
+use Rattle.spec_format.specs.Plan.{Plan, Listed, entriesIn}
 use Rattle.spec_format.specs.Faults.{mostEntries}
 use Rattle.spec_format.specs.Reading.{accepted, reading}
 use Rattle.spec_machine.specs.History.{runOf}
@@ -46,10 +46,10 @@ backed form text plan listed n read es line count o is =
 -- The report of every accepted text is backed.
 pub report-backed :
     (text : List ℕ) (plan : Plan) (listed : List Listed) (n : ℕ) → reading Form.Schedule text ≡ accepted plan listed n
-    → Backed plan (map (λ (l : Listed). l .entry) listed) (lineIn listed) n (runText text)
+    → Backed plan (entriesIn listed) (lineIn listed) n (runText text)
 unfolding runText
 report-backed text plan listed n read =
-    let es : List Entry = map (λ (l : Listed). l .entry) listed in
+    let es : List Entry = entriesIn listed in
     backed Form.Schedule text plan listed n read es (lineIn listed) n (runText text) (ap ofReading read)
 
 -- Demand 3 "is a single claim about the whole list of entries", of a list of records too: the report of every schedule

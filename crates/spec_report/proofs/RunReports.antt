@@ -14,7 +14,7 @@ use Rattle.spec_text.specs.Numbers.{largest}
 use Rattle.spec_text.specs.Lines.{lines}
 use Rattle.spec_format.specs.declared.Entry.{Entry}
 use Rattle.spec_format.specs.declared.Form.{Form}
-use Rattle.spec_format.specs.Plan.{Plan, Listed}
+use Rattle.spec_format.specs.Plan.{Plan, Listed, entriesIn}
 use Rattle.spec_format.specs.Reading.{accepted, reading}
 use Rattle.spec_format.specs.RunIsSteps.{runLine, stepLines, wholeLines, joinedLine, inJoined, SaysSame}
 use Rattle.spec_format.proofs.RunIsSteps.{run-is-steps}
@@ -82,11 +82,11 @@ readings-alike :
     (at n : ℕ) → 1 ≤ at → (one other : List ℕ) (p : Plan) (fs : List Listed) (m : ℕ)
     → reading Form.Schedule one ≡ accepted p (map (inJoined at n) fs) (joinedLine at n m)
     → reading Form.Schedule other ≡ accepted p fs m
-    → RunsAlike (joinedLine at n) p (map (λ (l : Listed). l .entry) fs) (runText one) (runText other)
+    → RunsAlike (joinedLine at n) p (entriesIn fs) (runText one) (runText other)
 unfolding runText
 readings-alike at n h one other p fs m e f =
     rw (e, f, map-map (λ (l : Listed). l .entry) (inJoined at n) fs)
-    (outcomes-alike (joinedLine at n) p (map (λ (l : Listed). l .entry) fs) (lineIn (map (inJoined at n) fs))
+    (outcomes-alike (joinedLine at n) p (entriesIn fs) (lineIn (map (inJoined at n) fs))
     (lineIn fs) (joinedLine at n m) m (line-joined at n h fs) refl)
 
 -- Two texts that say the same run alike.
@@ -97,8 +97,8 @@ texts-alike at n h one other same =
     record {
       there = λ p es k e short.
           let said = same .there p es k e short in
-          let entries : map (λ (l : Listed). l .entry) es ≡ map (λ (l : Listed). l .entry) (said .0)
-          = ap (map (λ (l : Listed). l .entry)) (said .3)
+          let entries : entriesIn es ≡ entriesIn (said .0)
+          = ap entriesIn (said .3)
           ∙ map-map (λ (l : Listed). l .entry) (inJoined at n) (said .0) in
           rw entries
           (readings-alike at n h one other p (said .0) (said .1) (cc (said .3, said .4, e)) (said .2));

@@ -16,7 +16,7 @@ use Rattle.spec_text.specs.Lines.{lines, fields}
 use Rattle.spec_text.specs.Numbers.{number}
 use Rattle.spec_format.specs.declared.Entry.{Entry}
 use Rattle.spec_format.specs.declared.Form.{Form}
-use Rattle.spec_format.specs.Plan.{Plan, Listed, blocksWritten}
+use Rattle.spec_format.specs.Plan.{Plan, Listed, entriesIn, blocksWritten}
 use Rattle.spec_format.specs.Kinds.{kindOf}
 use Rattle.spec_format.specs.ParsedLines.{parsedOf}
 use Rattle.spec_format.specs.Reading.{Reading, refusal, accepted, reading}
@@ -87,7 +87,7 @@ abbrev pub seenBy :
     (Plan → List Entry → Run → End → List ℕ) → (Plan → List Entry → Run) → Reading → List ℕ
 seenBy look run (refusal f n) = reportEnd (End.Faulty f n)
 seenBy look run (accepted plan ls n) =
-    let es : List Entry = map (λ (l : Listed). l .entry) ls in
+    let es : List Entry = entriesIn ls in
     let r : Run = run plan es in
     look plan es r (endOfRun r (lineIn ls) n)
 

@@ -10,24 +10,24 @@
 -- Assumes nothing.
 use Prim.Native.Nat.{ℕ, _+_, _*_, _≤_, _<_}
 use mathlib.Core.Path.{_≡_, refl}
-use mathlib.Core.List.{List, [], _∷_, _++_, map}
+use mathlib.Core.List.{List, [], _∷_, _++_}
 use mathlib.Core.Option.{Option, none, some}
 use native.Mathlib.Omega.{arith}
 use borrow.Author.Tests.{ltb-false}
 use lib.Dec.{ltb}
 use lib.IntN.{pos}
-use lib.ListN.{length, length-append, length-map}
+use lib.ListN.{length, length-append}
 use Rattle.spec_text.specs.Bytes.{bytes}
 use Rattle.spec_text.proofs.Cases.{by-test}
 use Rattle.spec_format.specs.declared.Entry.{Entry}
 use Rattle.spec_format.specs.declared.Fault.{Fault}
 use Rattle.spec_format.specs.declared.Form.{Form}
-use Rattle.spec_format.specs.Plan.{Plan, Listed}
+use Rattle.spec_format.specs.Plan.{Plan, Listed, entriesIn}
 use Rattle.spec_format.specs.Faults.{mostEntries}
 use Rattle.spec_format.specs.Reading.{Reading, refusal, accepted, reading}
 use Rattle.spec_format.specs.Sound.{Sound}
 use Rattle.spec_format.proofs.Tabulated.{length-tabulate}
-use Rattle.spec_format.proofs.Sound.{accepted-sound, accepted-few}
+use Rattle.spec_format.proofs.Sound.{accepted-sound, accepted-few, entries-many}
 use Rattle.spec_format.proofs.LineCounts.{low-count, low-lines, low-refused}
 use Rattle.spec_machine.specs.Memory.{Commit, jobOf, updateOf}
 use Rattle.spec_machine.specs.Places.{isActive}
@@ -172,8 +172,8 @@ printed-short text = go (reading Form.Schedule text) refl
     go : (r : Reading) → reading Form.Schedule text ≡ r → length (printed (ofReading r)) ≤ longestReport
     go (refusal f n) e = refused-short f n (low-refused Form.Schedule text f n e)
     go (accepted plan ls n) e =
-        let es : List Entry = map (λ (l : Listed). l .entry) ls in
-        let many : length es ≡ length ls = length-map ls (λ (l : Listed). l .entry) in
+        let es : List Entry = entriesIn ls in
+        let many : length es ≡ length ls = entries-many ls in
         outcome-short plan (accepted-sound Form.Schedule text plan ls n e) es
         (omega (arith, accepted-few Form.Schedule text plan ls n e))
         (lineIn ls) n

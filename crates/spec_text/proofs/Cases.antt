@@ -1,7 +1,10 @@
--- A test's two cases, tests joined by "and" and by "or", and two tests that say one thing. Assumes nothing.
+-- A test's two cases, tests joined by "and" and by "or", two tests that say one thing, and that something is not
+-- nothing. Assumes nothing.
 use Prim.Native.Nat.{ℕ, _<_}
 use mathlib.Core.Path.{_≡_, refl, sym, _∙_}
 use mathlib.Core.Bool.{Bool, true, false, _&&_, _||_, false≢true}
+use mathlib.Core.Option.{some, none}
+use native.Mathlib.Omega.{arith}
 use borrow.Author.Tests.{lt-ltb, ltb-true}
 use lib.Dec.{ltb}
 
@@ -28,3 +31,7 @@ both false b e = absurd (false≢true e)
 pub neither : (a b : Bool) → (a || b) ≡ false → (a ≡ false) × (b ≡ false)
 neither true b e = absurd (false≢true (sym e))
 neither false b e = (refl, e)
+
+-- Something is not nothing.
+pub some-none : {A : Type 0} {x : A} → some x ≡ none → ⊥
+some-none e = let z : _≡_ {A = ℕ} 0 1 = cc in omega arith

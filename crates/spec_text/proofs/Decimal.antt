@@ -23,6 +23,19 @@ value-last : (n : ℕ) (s : List ℕ) (b : ℕ) → value n (s ++ (b ∷ [])) �
 value-last n [] b = refl
 value-last n (c ∷ s) b = value-last (n * 10 + (c - 48)) s b
 
+-- The digits of a number are worth it, however large it is.
+digits-worth : (k n : ℕ) → value 0 (digits k n) ≡ n
+digits-worth zero n = omega arith
+digits-worth (suc k) n =
+    by-test (ltb n 10)
+    (λ t. rw t (omega arith))
+    (λ t. rw (t, value-last 0 (digits k (n / 10)) (48 + n % 10), digits-worth k (n / 10)) (omega arith))
+
+-- So two decimal forms of the same bytes are of one number.
+pub decimal-of-one : (n m : ℕ) → decimal n ≡ decimal m → n ≡ m
+unfolding decimal
+decimal-of-one n m e = sym (digits-worth 9 n) ∙ ap (value 0) e ∙ digits-worth 9 m
+
 -- Digits with one more at the end are all digits where those before it are, and it is.
 allDigits-last : (s : List ℕ) (b : ℕ) → allDigits (s ++ (b ∷ [])) ≡ (allDigits s && (leb 48 b && leb b 57))
 allDigits-last [] b = and-true (leb 48 b && leb b 57)

@@ -2,19 +2,19 @@
 -- fields (line-written, fields-written), so a line of numbers is (numbers-line, numbers-fields), and the decimal digits
 -- of numbers are read to the numbers (numbers-written). The argument: bytes are parted only where the parting byte
 -- stands, and no digit is a tab or a line feed. Assumes nothing.
-use Prim.Native.Nat.{ℕ, _≤_, _<_}
+use Prim.Native.Nat.{ℕ, zero, suc, _+_, _/_, _%_, _≤_, _<_}
 use mathlib.Core.Path.{_≡_, refl}
 use mathlib.Core.Bool.{Bool, true, not, _&&_}
 use mathlib.Core.List.{List, [], _∷_, _++_, map, append-nil, append-assoc}
 use mathlib.Core.Option.{some}
 use native.Mathlib.Omega.{arith}
-use borrow.Author.Tests.{leb-true, eq-eqb, ne-eqb, not-true}
-use lib.Dec.{leb, eqb}
+use borrow.Author.Tests.{eq-eqb, ne-eqb, not-true}
+use lib.Dec.{ltb, eqb}
 use lib.ListN.{length}
 use Rattle.spec_text.proofs.Cases.{by-test, both}
 use Rattle.spec_text.proofs.Decimal.{number-decimal}
-use Rattle.spec_text.specs.Numbers.{allDigits, leads, value, largest, number}
-use Rattle.spec_text.specs.Decimal.{decimal}
+use Rattle.spec_text.specs.Numbers.{largest}
+use Rattle.spec_text.specs.Decimal.{digits, decimal}
 use Rattle.spec_text.specs.Lines.{inFront, split, fields, Line, asLines, lines, numbers}
 use Rattle.spec_text.specs.WrittenLines.{fieldsBehind, lineOf}
 
@@ -65,22 +65,16 @@ pub lines-first :
 unfolding lines
 lines-first l rest e = rw (split-first 10 l rest e) (part-more 10 l rest)
 
--- The bytes of a decimal form are digits, from 48 to 57.
-pub decimal-digits : (n : ℕ) → n ≤ largest → allDigits (decimal n) ≡ true
-unfolding number
-decimal-digits n h =
-    let s = decimal n in
-    by-test ((leads s && allDigits s) && leb (value 0 s) largest)
-    (λ t. both (leads s) (allDigits s) (both (leads s && allDigits s) (leb (value 0 s) largest) t .0) .1)
-    (λ t. let e = rw t at (number-decimal s n .1 (h, refl)) in cc)
-
--- Digits are neither tabs nor line feeds, nor any other byte below 48.
-pub digits-lack : (x : ℕ) (s : List ℕ) → x < 48 → allDigits s ≡ true → lacks x s ≡ true
-digits-lack x [] h e = refl
-digits-lack x (b ∷ s) h e =
-    let first = both (leb 48 b && leb b 57) (allDigits s) e in
-    let low = leb-true 48 b (both (leb 48 b) (leb b 57) (first .0) .0) in
-    rw (ne-eqb b x (omega arith)) (digits-lack x s h (first .1))
+-- The digits of a number are neither tabs nor line feeds, nor any other byte below 48, however large it is.
+digits-lack : (x : ℕ) → x < 48 → (k n : ℕ) → lacks x (digits k n) ≡ true
+digits-lack x h zero n = rw (ne-eqb (48 + n) x (omega arith))
+digits-lack x h (suc k) n =
+    by-test (ltb n 10)
+    (λ t. rw (t, ne-eqb (48 + n) x (omega arith)))
+    (λ t.
+    rw t
+    (lacks-append x (digits k (n / 10)) ((48 + n % 10) ∷ []) (digits-lack x h k (n / 10))
+    (rw (ne-eqb (48 + n % 10) x (omega arith)))))
 
 -- A field as a line can hold it: it has neither a tab nor a line feed.
 pub record Plain (f : List ℕ) : Type 0 where
@@ -97,19 +91,16 @@ abbrev pub AllFit : List ℕ → Type 0
 AllFit [] = Unit {0}
 AllFit (n ∷ ns) = (n ≤ largest) × AllFit ns
 
--- The decimal forms of such numbers are fields of a line,
-pub decimals-plain : (ns : List ℕ) → AllFit ns → AllPlain (map decimal ns)
-decimals-plain [] fit = tt
-decimals-plain (n ∷ ns) fit =
-    let digital = decimal-digits n (fit .0) in (
-      record {
-        no-tab = digits-lack 9 (decimal n) (omega arith) digital;
-        no-feed = digits-lack 10 (decimal n) (omega arith) digital;
-      },
-      decimals-plain ns (fit .1),
-    )
+-- Decimal forms are fields of a line,
+pub decimals-plain : (ns : List ℕ) → AllPlain (map decimal ns)
+unfolding decimal
+decimals-plain [] = tt
+decimals-plain (n ∷ ns) = (
+  record { no-tab = digits-lack 9 (omega arith) 9 n; no-feed = digits-lack 10 (omega arith) 9 n },
+  decimals-plain ns,
+)
 
--- and are read to the numbers.
+-- and those of such numbers are read to the numbers.
 pub numbers-written : (ns : List ℕ) → AllFit ns → numbers (length ns) (map decimal ns) ≡ some ns
 numbers-written [] fit = refl
 numbers-written (n ∷ ns) fit =
@@ -155,12 +146,12 @@ line-written first fs rest p ps =
 
 -- A line of numbers is the first line of what is written,
 pub numbers-line :
-    (first ns rest : List ℕ) → Plain first → AllFit ns
+    (first ns rest : List ℕ) → Plain first
     → lines (lineOf first ns ++ rest) ≡ writtenLine first (map decimal ns) ∷ lines rest
-numbers-line first ns rest p fit = line-written first (map decimal ns) rest p (decimals-plain ns fit)
+numbers-line first ns rest p = line-written first (map decimal ns) rest p (decimals-plain ns)
 
 -- and its fields are the first and the numbers' decimal forms.
 pub numbers-fields :
-    (first ns : List ℕ) → Plain first → AllFit ns
+    (first ns : List ℕ) → Plain first
     → fields (writtenLine first (map decimal ns) .bytes) ≡ first ∷ map decimal ns
-numbers-fields first ns p fit = fields-written first (map decimal ns) p (decimals-plain ns fit)
+numbers-fields first ns p = fields-written first (map decimal ns) p (decimals-plain ns)

@@ -4,14 +4,14 @@ use mathlib.Core.Path.{_≡_, sym, _∙_, ap, subst}
 use mathlib.Core.List.{List, []}
 use native.Mathlib.Omega.{arith}
 use lib.IntN.{ℤ}
-use lib.ListN.{length, take, length-map}
+use lib.ListN.{length, take}
 use Rattle.spec_format.specs.declared.Entry.{Entry}
 use Rattle.spec_format.specs.declared.Fault.{Fault}
 use Rattle.spec_format.specs.declared.Form.{Form}
 use Rattle.spec_format.specs.Plan.{Listed, entriesIn}
 use Rattle.spec_format.specs.Sound.{Sound}
 use Rattle.spec_format.specs.Reading.{refusal, accepted, reading}
-use Rattle.spec_format.proofs.Sound.{accepted-sound, accepted-few}
+use Rattle.spec_format.proofs.Sound.{accepted-sound, accepted-few, entries-many}
 use Rattle.spec_format.proofs.LineCounts.{low-count, low-lines}
 use Rattle.read_tables.specs.PlanTable.{planIn}
 use Rattle.read_tables.specs.NoteTable.{listedIn}
@@ -37,10 +37,6 @@ pub refused-text : (text : List ℕ) (f : Fault) (n : ℕ) → refusal f n ≡ r
     → runText text ≡ refused (End.Faulty f n)
 unfolding runText
 refused-text text f n e = sym (ap ofReading e)
-
--- There are as many entries without their lines.
-entries-many : (ls : List Listed) → length (entriesIn ls) ≡ length ls
-entries-many ls = length-map ls (λ (l : Listed). l .entry)
 
 module _ (text t notes : List ℕ) (parsed : Parsed) (lines : ℕ) (reads : Reads text t notes parsed lines) where
   -- The single entries of the text with their lines,

@@ -3,12 +3,12 @@
 use Prim.Native.Nat.{ℕ, _+_, _≤_}
 use mathlib.Core.Path.{_≡_, sym, ap, _∙_}
 use mathlib.Core.List.{List}
-use lib.ListN.{length, length-map}
+use lib.ListN.{length}
 use Rattle.spec_format.specs.declared.Entry.{Entry}
 use Rattle.spec_format.specs.declared.Form.{Form}
-use Rattle.spec_format.specs.Plan.{Listed}
 use Rattle.spec_format.specs.Faults.{mostEntries}
 use Rattle.spec_format.specs.Reading.{reading}
+use Rattle.spec_format.proofs.Sound.{entries-many}
 use Rattle.spec_machine.specs.History.{runOf}
 use Rattle.spec_report.specs.declared.End.{End}
 use Rattle.spec_report.specs.Outcomes.{refused, endOf, runSchedule}
@@ -35,7 +35,7 @@ module _ {es : List Entry} {count : ℕ} {notes : List ℕ} (noted : Noted es co
   -- There are as many single entries.
   as-many : length (listedIn count notes) ≡ count
   as-many =
-      sym (length-map (listedIn count notes) (λ (l : Listed). l .entry))
+      sym (entries-many (listedIn count notes))
       ∙ ap length (noted .entries-are few)
       ∙ sym (noted .count-is)
 

@@ -2,8 +2,8 @@
 use mathlib.Core.Path.{refl, ap, _∙_}
 use native.Mathlib.Omega.{arith}
 use denote.Ref.{now}
-use lib.ListN.{length-map}
-use Rattle.spec_format.specs.Plan.{Listed, entriesIn}
+use Rattle.spec_format.specs.Plan.{entriesIn}
+use Rattle.spec_format.proofs.Sound.{entries-many}
 use Rattle.spec_report.specs.Outcomes.{written}
 use Rattle.read_tables.specs.NoteTable.{listedIn}
 use Rattle.report_ending.proofs.WrittenOut.{same-outcome}
@@ -24,7 +24,7 @@ write-requires c κs =
     let s = j .before .before .before .before .before in
     let h = s .pre .1 .0 in
     let ls = listedIn (s .args .noted) (now (s .args .notes)) in
-    (s .pre .0, omega (arith, j .join-notes .ensures .few, length-map ls (λ (l : Listed). l .entry), h .1 .0, h .1 .1))
+    (s .pre .0, omega (arith, j .join-notes .ensures .few, entries-many ls, h .1 .0, h .1 .1))
 
 enum-told-2 : tie.Need-enum-told-2
 enum-told-2 c = search needs

@@ -27,10 +27,11 @@ use Rattle.whole_written_records.proofs.write_run.Tie as tie
 abbrev start : tie.Else1 → tie.Start
 start c = c .before .before .before .before
 
--- The text is read, and the records are noted.
+-- The text is read,
 abbrev Read : tie.Start → List ℕ → Type 0
 Read s text = PlanRead text (s .args .verdict) (now (s .args .plan))
 
+-- and the records are noted.
 abbrev Has : tie.Start → List Entry → Type 0
 Has s es = Noted es (s .args .count) (now (s .args .notes))
 
@@ -39,10 +40,11 @@ accepts : (c : tie.Else1) {text : List ℕ} → Read (start c) text
     → Accepts text (c .before .enum-told .given .0 .0) (now (start c .args .plan))
 accepts c read = read .accepts _ (c .before .enum-told .given .1)
 
--- Where the records have run, from where the end is known, and where they are few.
+-- Where the records have run, from where the end is known,
 abbrev ran-at : tie.After-end-of → tie.After-run-notes
 ran-at c = c .before .before .before
 
+-- and where they are few.
 abbrev few-at : tie.After-run-notes → tie.Else1
 few-at c = c .before .before
 

@@ -3,9 +3,9 @@ use Prim.Native.Nat.{_+_}
 use mathlib.Core.Path.{_≡_, _∙_, ap}
 use native.Mathlib.Omega.{arith}
 use denote.Ref.{now}
-use lib.ListN.{length, length-map}
-use Rattle.spec_format.specs.Plan.{Listed}
+use lib.ListN.{length}
 use Rattle.spec_format.specs.Sound.{Sound}
+use Rattle.spec_format.proofs.Sound.{entries-many}
 use Rattle.spec_report.specs.Outcomes.{endOf, lineIn}
 use Rattle.read_tables.specs.PlanTable.{planIn}
 use Rattle.read_tables.specs.NoteTable.{notePlaces, listedIn}
@@ -17,7 +17,6 @@ use Rattle.whole_written_text.proofs.AcceptedWritten.{whole-notes, hold
 use borrow.Author.Needs.{needs}
 use Rattle.whole_written_text.proofs.write_plan.Statement.{statement}
 use Rattle.whole_written_text.proofs.write_plan.Tie as tie
-use Rattle.whole_written_text.proofs.write_plan.Reads as reads
 
 -- What is known of the text that was read, at the start: the plan is sound, and the notes hold the entries.
 known : (s : tie.Start)
@@ -35,10 +34,11 @@ known s =
       ),
     )
 
--- Where the entries have run, from where the end is known, and the start.
+-- Where the entries have run, from where the end is known,
 abbrev ran-at : tie.After-end-of → tie.After-run-notes
 ran-at c = c .before .before .before .before
 
+-- and the start.
 abbrev start : tie.After-run-notes → tie.Start
 start c = c .before .before .before
 
@@ -58,7 +58,7 @@ add-end-of c =
     let s = start q in
     let h = known s .1 .0 in
     let ls = listedIn (s .args .parsed .notes) (now (s .args .notes)) in
-    omega (arith, q .run-notes .ensures .few, length-map ls (λ (l : Listed). l .entry), h .1 .0, h .1 .1)
+    omega (arith, q .run-notes .ensures .few, entries-many ls, h .1 .0, h .1 .1)
 
 end-of-requires : tie.Need-end-of-requires
 end-of-requires c κs = search needs
