@@ -37,8 +37,9 @@ use Rattle.spec_plan_text.specs.PlanText.{jobLines, openingBlockLines, a
 use Rattle.spec_plan_text.specs.LongestText.{longestPlanLine, longestJobLine, longestBlockLine}
 use Rattle.spec_plan_text.specs.LongestText.{longestUpdateLine, longestMoveLine, longestEntryLine}
 use Rattle.spec_plan_text.specs.LongestText.{longestUpdate, longestPlanText, longestText}
-use Rattle.spec_plan_text.proofs.Runnable.{AllRunnable, RunnableLine, RunnableLines, runnable-lines}
-use Rattle.spec_plan_text.proofs.LongestRuns.{runnable-kinds, only-longest}
+use Rattle.spec_plan_text.proofs.Runnable.{AllRunnable}
+use Rattle.spec_plan_text.proofs.LongestRuns.{runnable-kinds, only-longest, RunnableLine, RunnableLines}
+use Rattle.spec_plan_text.proofs.LongestRuns.{runnable-lines}
 
 -- Numbers have at most so many digits each. There may be fewer numbers.
 abbrev HaveDigits : List ℕ → List ℕ → Type 0

@@ -1,13 +1,14 @@
 -- The entry lines of single entries (only-longest): their runs are the longest, their single entries are those, each
 -- step with its unused number 0, and no other entry lines have both. A step's unused number does not matter to them
--- (plain-longest), and steps of one card in front of entries that begin with no step of it are one run (run-in-front).
+-- (plain-longest), steps of one card in front of entries that begin with no step of it are one run (run-in-front), and
+-- where a plan can run the entries, it has the numbers of their lines (runnable-lines).
 --
 -- In plain words. A step in front of entry lines makes a run of its card longer, or begins one where the first line is
 -- of no step of its card, so no two runs of one card meet. The other way round, entry lines whose runs are the longest
 -- come out again when their single entries are joined: each run meets no step of its card.
 --
 -- Assumes nothing.
-use Prim.Native.Nat.{ℕ, zero, suc, _≤_}
+use Prim.Native.Nat.{ℕ, zero, suc, _≤_, _<_}
 use mathlib.Core.Path.{_≡_, refl, sym, _∙_, ap}
 use mathlib.Core.Logic.{_⊎_, inl, inr, ⊎-elim, _≢_}
 use mathlib.Core.Bool.{false}
@@ -25,7 +26,7 @@ use Rattle.spec_plan_text.specs.EntryLines.{EntryLine, call, run, runByt
 use Rattle.spec_plan_text.specs.EntryLines.{stepBefore, entryBefore, longestRuns, singlesIn, plain}
 use Rattle.spec_plan_text.specs.PlanText.{textOf}
 use Rattle.spec_plan_text.specs.WrittenTexts.{OnlyLongest}
-use Rattle.spec_plan_text.proofs.Runnable.{AllRunnable}
+use Rattle.spec_plan_text.proofs.Runnable.{Runnable, AllRunnable}
 
 -- Every entry is a call or a step.
 abbrev pub KnownKinds : List Entry → Type 0
@@ -215,3 +216,37 @@ only-longest es known =
       same-singles = all-singles es known;
       only = λ ls h same. sym (rejoined ls h) ∙ ap longestRuns same ∙ plain-longest es;
     }
+
+module _ (plan : Plan) where
+  -- An entry line is a call of a job and an update that the plan has, or a run, not empty, of a card that it has.
+  abbrev pub RunnableLine : EntryLine → Type 0
+  RunnableLine (call job update) = (job < plan .sizes .jobs) × (update < length (plan .updates))
+  RunnableLine (run card n) = (card < plan .sizes .cards) × (1 ≤ n)
+
+  -- All entry lines are so.
+  abbrev pub RunnableLines : List EntryLine → Type 0
+  RunnableLines [] = Unit {0}
+  RunnableLines (l ∷ ls) = RunnableLine l × RunnableLines ls
+
+  -- A step in front of such lines,
+  step-runnable :
+      (card : ℕ) (ls : List EntryLine) → card < plan .sizes .cards → RunnableLines ls
+      → RunnableLines (stepBefore card ls)
+  step-runnable card [] has h = ((has, omega arith), tt)
+  step-runnable card (call job update ∷ ls) has h = ((has, omega arith), h)
+  step-runnable card (run other n ∷ ls) has h =
+      by-test (eqb other card)
+      (λ t. rw t ((has, omega arith), h .1))
+      (λ t. rw t ((has, omega arith), h))
+
+  -- an entry in front of them,
+  entry-runnable :
+      (e : Entry) (ls : List EntryLine) → Runnable plan e → RunnableLines ls → RunnableLines (entryBefore e ls)
+  entry-runnable e ls (inl called) h = rw (called .0) ((called .1, called .2), h)
+  entry-runnable e ls (inr stepped) h = rw (stepped .0) (step-runnable (e .first) ls (stepped .1) h)
+
+  -- and the lines of entries that the plan can run.
+  pub runnable-lines : (es : List Entry) → AllRunnable plan es → RunnableLines (longestRuns es)
+  unfolding longestRuns
+  runnable-lines [] h = tt
+  runnable-lines (e ∷ es) h = entry-runnable e (longestRuns es) (h .0) (runnable-lines es (h .1))
