@@ -25,8 +25,8 @@ use Rattle.spec_format.specs.Sound.{Sound}
 use Rattle.spec_plan_text.specs.EntryLines.{EntryLine, call, run, entryBytes, entryLineBytes, longestRuns}
 use Rattle.spec_plan_text.specs.EntryLines.{singlesOf, singlesIn, plain}
 use Rattle.spec_plan_text.proofs.Runnable.{AllRunnable}
-use Rattle.spec_plan_text.proofs.LongestRuns.{runnable-kinds, one-uncounted, only-longest, RunnableLine, RunnableLines}
-use Rattle.spec_plan_text.proofs.LongestRuns.{runnable-lines}
+use Rattle.spec_plan_text.proofs.LongestRuns.{runnable-kinds, one-uncounted, only-longest}
+use Rattle.spec_plan_text.proofs.LongestRuns.{RunnableLine, RunnableLines, runnable-lines}
 use Rattle.spec_plan_text.proofs.Leads.{Leads, none-leads, leads-then, line-leads}
 use Rattle.spec_plan_text.proofs.PlanReadBack.{laid, counting}
 

@@ -99,8 +99,8 @@ handed (written e bytes) buffer = cond (fits bytes buffer) bytes []
 unfoldable pub left : Outcome → List ℕ → List ℕ
 left o buffer = inFirstPlaces (handed o buffer) buffer
 
--- "A program .. prints the report, or `end number line` alone for 1 to 10", and for 16 and 17; of a writing the text, or
--- `end number line` alone for any refusal.
+-- "A program .. prints the report, or `end number line` alone for 1 to 10", and for 16 and 17; of a writing the text,
+-- or `end number line` alone for any refusal.
 unfoldable pub printed : Outcome → List ℕ
 printed (refused e) = reportEnd e
 printed (written e bytes) = bytes
