@@ -1,8 +1,8 @@
-//! Document 01 with document 02's runs of steps, update numbers and plan writer in plain Rust: the text's check
-//! (numbers 1 to 10, 16 and 17), the machine (the step list A1 to H42, refusals 11 to 14), the report (refusal 15), the
-//! run of a schedule of records beside a plan's text, and the writer of the one text for either. It is an independent
-//! implementation, written from the documents alone; the proved one is compared with it, in its answers and in its
-//! time. It also counts the late stores of a run. Nothing here is proved.
+//! Document 01 with document 02's runs of steps, update numbers, plan writer and counters that stop in plain Rust: the
+//! text's check (numbers 1 to 10, 16 and 17), the machine (the step list A1 to H42, refusals 11 to 14), the report
+//! (refusal 15), the run of a schedule of records beside a plan's text, and the writer of the one text for either. It is
+//! an independent implementation, written from the documents alone; the proved one is compared with it, in its answers
+//! and in its time. It also counts a run's late stores and stopped sums. Nothing here is proved.
 
 /// The most cards, jobs, blocks, words of a block, and blocks that one update may write.
 const CARDS: usize = 8;
@@ -54,6 +54,13 @@ pub struct Late {
     pub h42_status: usize, // Stat[hid] is not wid
 }
 
+/// What is counted of a run: its late stores, and its sums that stopped at the largest word.
+#[derive(Clone, Copy, Debug, Default, PartialEq, Eq)]
+pub struct Counts {
+    pub late: Late,
+    pub stopped_sums: usize,
+}
+
 /// Checks a text.
 pub fn check(text: &[u8]) -> Answer {
     answer(read(text, true))
@@ -74,13 +81,13 @@ pub fn run_schedule(text: &[u8], records: &[Record], buffer: &mut [u8]) -> Ended
     run_schedule_counting(text, records, buffer).0
 }
 
-/// As `run`, with the late stores.
-pub fn run_counting(text: &[u8], buffer: &mut [u8]) -> (Ended, Late) {
+/// As `run`, with what is counted.
+pub fn run_counting(text: &[u8], buffer: &mut [u8]) -> (Ended, Counts) {
     run_read(read(text, true), buffer)
 }
 
-/// As `run_schedule`, with the late stores.
-pub fn run_schedule_counting(text: &[u8], records: &[Record], buffer: &mut [u8]) -> (Ended, Late) {
+/// As `run_schedule`, with what is counted.
+pub fn run_schedule_counting(text: &[u8], records: &[Record], buffer: &mut [u8]) -> (Ended, Counts) {
     run_read(read_schedule(text, records), buffer)
 }
 
@@ -103,15 +110,15 @@ fn answer(read: Result<Plan, (usize, usize)>) -> Answer {
     }
 }
 
-/// Runs what was read and writes the report. Refused before any entry runs, it has no report and no stores.
-fn run_read(read: Result<Plan, (usize, usize)>, buffer: &mut [u8]) -> (Ended, Late) {
+/// Runs what was read and writes the report. Refused before any entry runs, it has no report and nothing to count.
+fn run_read(read: Result<Plan, (usize, usize)>, buffer: &mut [u8]) -> (Ended, Counts) {
     match read {
         Ok(plan) => {
             let mut machine = Machine::new(&plan);
             let (number, line) = machine.run(&plan);
-            (fill(buffer, &machine.report(&plan, number, line), number, line), machine.late)
+            (fill(buffer, &machine.report(&plan, number, line), number, line), machine.counts)
         }
-        Err((number, line)) => (Ended { number, line, length: 0 }, Late::default()),
+        Err((number, line)) => (Ended { number, line, length: 0 }, Counts::default()),
     }
 }
 
@@ -142,7 +149,8 @@ struct Word { block: usize, offset: usize }
 #[derive(Clone, Copy, PartialEq)]
 enum MoveKind { Copy, Set, Add }
 
-/// A move: `to` becomes `plus`, added to the word `from` where the move reads. A copy adds 0; a set does not read.
+/// A move: `to` becomes `plus`, added to the word `from` where the move reads; a sum stops at the largest word. A copy
+/// adds 0; a set does not read.
 #[derive(Clone, Copy)]
 struct Move { kind: MoveKind, from: Word, to: Word, plus: u32 }
 
@@ -439,7 +447,7 @@ pub struct Machine {
     running: [usize; CARDS], // the active job of highest priority on each card, or N
     entries: usize, // how many were accepted, each step counted
     commits: Vec<[usize; 3]>, // the entry, the job, and the update of the job's call
-    late: Late,
+    counts: Counts,
 }
 
 impl Machine {
@@ -534,7 +542,7 @@ impl Machine {
             }
             A12 => {
                 let moved = Version { count: job.ver.count + 1, flag: job.new_flag };
-                if self.version == job.ver { self.version = moved; } else { self.late.a12 += 1; }
+                if self.version == job.ver { self.version = moved; } else { self.counts.late.a12 += 1; }
                 A7
             }
             A14 => { self.ann[card] = p; if job.round == 0 { job.round = 1; A4 } else { A15 } }
@@ -575,7 +583,11 @@ impl Machine {
             WriteWord => {
                 let moves = &plan.updates[job.update];
                 let Move { kind, to, plus, .. } = moves[job.at];
-                let word = if kind == MoveKind::Set { plus } else { job.word.wrapping_add(plus) };
+                let word = match (kind, job.word.checked_add(plus)) {
+                    (MoveKind::Set, _) => plus,
+                    (_, Some(sum)) => sum,
+                    (_, None) => { self.counts.stopped_sums += 1; u32::MAX }
+                };
                 self.store[job.marks[to.block].number * plan.words + to.offset] = word;
                 job.at += 1;
                 job.begin_move(moves)
@@ -587,9 +599,9 @@ impl Machine {
             }
             H25 => {
                 if self.version != job.ver {
-                    self.late.h25_moved += 1;
+                    self.counts.late.h25_moved += 1;
                 } else if self.stat[job.hid] != Pending {
-                    self.late.h25_status += 1;
+                    self.counts.late.h25_status += 1;
                 } else {
                     self.stat[job.hid] = Decided(p);
                     let listed = self.rows[p].listed[..job.listed].iter();
@@ -610,9 +622,9 @@ impl Machine {
             H41 => {
                 let Listed { address, old, new } = job.block;
                 if self.version != job.ver {
-                    self.late.h41_moved += 1;
+                    self.counts.late.h41_moved += 1;
                 } else if self.bank[address] != old {
-                    self.late.h41_bank += 1;
+                    self.counts.late.h41_bank += 1;
                 } else {
                     self.bank[address] = new;
                 }
@@ -622,9 +634,9 @@ impl Machine {
             H42 => {
                 let hid = job.hid;
                 if self.version != job.ver {
-                    self.late.h42_moved += 1;
+                    self.counts.late.h42_moved += 1;
                 } else if self.stat[hid] != Decided(job.wid) {
-                    self.late.h42_status += 1;
+                    self.counts.late.h42_status += 1;
                 } else {
                     self.stat[hid] = Nothing;
                     self.commits.push([self.entries, hid, self.jobs[hid].called]);

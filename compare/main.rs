@@ -7,8 +7,9 @@
 // A case is a text, or a plan's text and records, with a lent buffer of some room. Both checks are asked of the text,
 // and it is run; the answers have to be the same, and so has every byte of the buffer and beside it. More cases are for
 // the writer (writing.rs). All are shared by two threads, whose stacks are as long as include/point_memory.h asks for.
-// Printed are the counts of cases and differences, how often runs of steps, each number, each order of judgement about
-// 17 and each late store were met, and what the writer met. The status is 1 where something differs or was hardly met.
+// Printed are the counts of cases and differences, how often runs of steps, stopped sums, each number, each order of
+// judgement about 17 and each late store were met, and what the writer met. The status is 1 where something differs or
+// was hardly met.
 // The first case that differs is then in target/difference.txt, and `target/compare NUMBER` runs it alone.
 
 mod cases;
@@ -19,7 +20,7 @@ mod plain;
 mod writing;
 
 use cases::{Case, Random};
-use plain::{Answer, Ended, Late};
+use plain::{Answer, Counts, Ended, Late};
 use std::thread;
 
 /// The cases, those for the writer, which are numbered on, and the threads that share them.
@@ -30,10 +31,11 @@ const THREADS: u64 = 2;
 /// The stack of each thread.
 const STACK: usize = 256 * 1024;
 
-/// In how many cases each number, each order about 17 and each late store has to be met, and in how many runs of steps,
-/// their 16, 17, and each thing that the writer can show.
+/// In how many cases each number, each order about 17 and each late store has to be met, in how many runs of steps,
+/// their 16, 17, and each thing that the writer can show, and in how many a sum that stops.
 const OFTEN: usize = 100;
 const MORE_OFTEN: usize = 500;
+const MOST_OFTEN: usize = 1_000;
 
 /// The length of a buffer that is enough for every report and every text, and the bytes kept on both sides of a lent
 /// one.
@@ -78,6 +80,8 @@ struct Tally {
     orders: [usize; 4],
     late: [usize; 7],
     late_cases: [usize; 7],
+    stopped_sums: usize,
+    stopped_sum_cases: usize,
     differences: usize,
     first: Option<(u64, String)>, // the first case that differs, and how
 }
@@ -94,12 +98,14 @@ impl Tally {
         add_all(&mut self.orders, &other.orders);
         add_all(&mut self.late, &other.late);
         add_all(&mut self.late_cases, &other.late_cases);
+        self.stopped_sums += other.stopped_sums;
+        self.stopped_sum_cases += other.stopped_sum_cases;
         self.differences += other.differences;
         self.first = self.first.take().into_iter().chain(other.first).min_by_key(|first| first.0);
     }
 
-    /// Whether runs of steps, each number, each order about 17 and each late store were met often. A plan's text has no
-    /// runs, so that nothing beside it is refused with 16.
+    /// Whether runs of steps, stopped sums, each number, each order about 17 and each late store were met often. A plan's
+    /// text has no runs, so that nothing beside it is refused with 16.
     fn is_enough(&self) -> bool {
         let [check, check_plan, run, schedule] = &self.numbers;
         let checks = check[..11].iter().chain(&check_plan[..11]);
@@ -107,6 +113,7 @@ impl Tally {
         let more = [check[16], run[16], check[17], check_plan[17], run[17], schedule[17]];
         numbers.chain(&self.orders).chain(&self.late_cases).all(|&met| met >= OFTEN)
             && self.runs.iter().chain(&more).all(|&met| met >= MORE_OFTEN)
+            && self.stopped_sum_cases >= MOST_OFTEN
     }
 
     /// Prints everything.
@@ -131,6 +138,7 @@ impl Tally {
         for (place, name) in LATE.iter().enumerate() {
             println!("{name:36} {:>12} {:>12}", self.late[place], self.late_cases[place]);
         }
+        println!("{:36} {:>12} {:>12}", "sum that stops", self.stopped_sums, self.stopped_sum_cases);
     }
 }
 
@@ -193,15 +201,15 @@ struct Outcome {
     buffer: Vec<u8>,
 }
 
-/// The plain implementation's outcome, and its late stores.
-fn plain_outcome(case: &Case, text: &[u8], mut buffer: Vec<u8>) -> (Outcome, Late) {
+/// The plain implementation's outcome, and what it counts.
+fn plain_outcome(case: &Case, text: &[u8], mut buffer: Vec<u8>) -> (Outcome, Counts) {
     let checks = [plain::check(text), plain::check_plan(text)];
     let end = buffer.len() - MARGIN;
-    let (ended, late) = match &case.records {
+    let (ended, counts) = match &case.records {
         None => plain::run_counting(text, &mut buffer[MARGIN..end]),
         Some(records) => plain::run_schedule_counting(text, records, &mut buffer[MARGIN..end]),
     };
-    (Outcome { checks, ended, buffer }, late)
+    (Outcome { checks, ended, buffer }, counts)
 }
 
 /// The library's outcome.
@@ -241,7 +249,7 @@ fn compare(number: u64, ample: &mut [u8], tally: &mut Tally) {
         bytes.copy_from_slice(&random.next().to_le_bytes()[..bytes.len()]);
     }
 
-    let (plain, late) = plain_outcome(&case, text, buffer.clone());
+    let (plain, counts) = plain_outcome(&case, text, buffer.clone());
     let library = library_outcome(&case, text, buffer);
     if plain != library {
         tally.differences += 1;
@@ -262,9 +270,11 @@ fn compare(number: u64, ample: &mut [u8], tally: &mut Tally) {
     tally.numbers[0][plain.checks[0].number] += 1;
     tally.numbers[1][plain.checks[1].number] += 1;
     tally.numbers[function][plain.ended.number] += 1;
-    let late = late_counts(late);
+    let late = late_counts(counts.late);
     add_all(&mut tally.late, &late);
     add_all(&mut tally.late_cases, &late.map(|times| times.min(1)));
+    tally.stopped_sums += counts.stopped_sums;
+    tally.stopped_sum_cases += counts.stopped_sums.min(1);
 }
 
 /// Compares the cases from the first to before the end that fall to one thread: those that are run, and those that are
@@ -303,7 +313,8 @@ fn main() {
     let enough = alone.is_some() || ran.is_enough() && written.is_enough();
     if !enough {
         println!("\nA number, an order about 17 or a late store was met in fewer than {OFTEN} cases,");
-        println!("or runs of steps, 16, 17 or what the writer can show in fewer than {MORE_OFTEN}.");
+        println!("or runs of steps, 16, 17 or what the writer can show in fewer than {MORE_OFTEN},");
+        println!("or a sum that stops in fewer than {MOST_OFTEN}.");
     }
     if let Some((number, how)) = ran.first.as_ref().or(written.first.as_ref()) {
         println!("\nCase {number} differs: see target/difference.txt.");

@@ -18,6 +18,8 @@ MISTAKES = ("split-a7",)
 
 UNDECIDED = -1
 
+LARGEST = 4_294_967_295  # the largest word: add gives it where the sum would be more
+
 
 class Plan:
     """A plan: P, N, B, S and C, the jobs as (card, priority), the opening words of each block, and the updates by their
@@ -266,7 +268,7 @@ class CardModel:
     def Write(self, job):
         block, place = self.block_and_place(job)
         _, a, k = job.moves[job.at]
-        self.store[job.seen_as[block]][place] = k if a is None else (job.word + k) % 2**32
+        self.store[job.seen_as[block]][place] = k if a is None else min(job.word + k, LARGEST)
         job.at += 1
         return self.begin_move(job)
 

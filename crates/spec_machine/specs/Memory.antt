@@ -1,16 +1,17 @@
 -- The one-after-another memory: "It has no bank, copies or statuses." It is fed the opening words, the updates, the
 -- entries, and the list that says which entry commits which call. Assumes nothing.
-use Prim.Native.Nat.{ℕ, zero, suc, _+_, _-_, _%_}
+use Prim.Native.Nat.{ℕ, zero, suc, _+_, _-_, min}
 use mathlib.Core.List.{List, [], foldl, map}
 use lib.Dec.{eqb}
 use lib.ListN.{getD, set}
+use Rattle.spec_text.specs.Numbers.{largest}
 use Rattle.spec_format.specs.declared.Entry.{Entry}
 use Rattle.spec_format.specs.declared.Move.{Move}
 use Rattle.spec_machine.specs.Selected.{select}
 
--- "add (word d becomes word a plus k, modulo 4,294,967,296)": the sum.
+-- The sum of "add (word d becomes word a plus k ..)": "Add gives 4,294,967,295 where the sum would be more."
 abbrev pub sum : ℕ → ℕ → ℕ
-sum word k = (word + k) % 4294967296
+sum word k = min (word + k) largest
 
 -- The words after one move: "copy (word d becomes word a), set (word d becomes k), add".
 abbrev pub afterMove : List ℕ → Move → List ℕ

@@ -72,10 +72,10 @@ rows =
     -- "B = 2, S = 1, C = 1, sets of words 0 and 1: 10 at the second; word 0 twice passes."
     ∷ record { text = twoBlocks (update "set\t0\t1\nset\t1\t1\n" []); printed = "end\t10\t7\n" }
     ∷ record { text = twoBlocks (update "set\t0\t1\nset\t0\t2\n" []); printed = "block\t5\nblock\t6\nend\t0\t7\n" }
-    -- "Add of 1 to 4,294,967,295 gives 0."
+    -- "Document 01's run with 1 added to the largest word now gives 4,294,967,295."
     ∷ record {
       text = oneJob 1 4294967295 (update "add\t0\t0\t1\n" (callAndSteps 33));
-      printed = "commit\t29\t0\t0\nblock\t0\nend\t0\t39\n";
+      printed = "commit\t29\t0\t0\nblock\t4294967295\nend\t0\t39\n";
     }
     -- "Job 0 commits at entry 21, job 1 at 38; all returned after entry 46."
     ∷ record {

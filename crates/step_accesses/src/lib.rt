@@ -78,11 +78,18 @@ pub fn after_list(m: Move, access: u8) -> Stage
     }
 }
 
-// "add (word d becomes word a plus k, modulo 4,294,967,296)": the sum.
+// The largest word.
+const LARGEST: u64 = 4294967295;
+
+// "Add gives 4,294,967,295 where the sum would be more": the sum.
 fn sum(word: u32, k: u32) -> u32
     ensures { λ r. ⌜ r ≡ sumOf word k ⌝ }
 {
-    ((word as u64 + k as u64) % 4294967296) as u32
+    let mut total = word as u64 + k as u64;
+    if total > LARGEST {
+        total = LARGEST;
+    }
+    total as u32
 }
 
 // What a move writes, from the word that its read took.

@@ -1,0 +1,23 @@
+-- The sum of an add, on which a counter rests: it is at most the largest word, exact wherever that fits, and else the
+-- largest word, where it stands; and of several adds to a word only the total counts. Assumes nothing.
+use Prim.Native.Nat.{ℕ, _+_, _≤_, _<_}
+use mathlib.Core.Path.{_≡_}
+use native.Mathlib.Omega.{arith}
+use Rattle.spec_text.specs.Numbers.{largest}
+use Rattle.spec_machine.specs.Memory.{sum}
+
+-- It is at most the largest word.
+pub sum-at-most : (word k : ℕ) → sum word k ≤ largest
+sum-at-most word k = omega arith
+
+-- It is word + k wherever that fits.
+pub sum-exact : (word k : ℕ) → word + k ≤ largest → sum word k ≡ word + k
+sum-exact word k fits = omega arith
+
+-- "Add gives 4,294,967,295 where the sum would be more."
+pub sum-stops : (word k : ℕ) → largest < word + k → sum word k ≡ largest
+sum-stops word k more = omega arith
+
+-- One add after another is one add of both: a counter that cards add to has the same word in whatever order they do.
+pub sum-total : (word j k : ℕ) → sum (sum word j) k ≡ sum word (j + k)
+sum-total word j k = omega arith
