@@ -1,10 +1,10 @@
--- The theorem is about something: two plans that are accepted, so that demand 3 holds of each with every list of
--- entries; a state that a schedule reaches in which both cases of the memory clause are met; and one in which the bound
--- on the calls that pass another is reached. Assumes nothing.
+-- The theorems are about something: two plans that are accepted, so that demand 3 holds of each with every list of
+-- entries, one of them with words that are counters and others; a state that a schedule reaches in which both cases of
+-- the memory clause are met; and one in which the bound on the calls that pass another is reached. Assumes nothing.
 use Prim.Native.Nat.{ℕ}
 use mathlib.Core.Path.{_≡_, refl}
 use mathlib.Core.Bool.{Bool, true, false}
-use mathlib.Core.List.{List, [], _∷_, _++_}
+use mathlib.Core.List.{List, [], _∷_, _++_, map}
 use lib.ListN.{length, replicate}
 use Rattle.spec_text.specs.Bytes.{bytes}
 use Rattle.spec_text.specs.Lines.{lines, fields}
@@ -17,6 +17,7 @@ use Rattle.spec_format.specs.Kinds.{kindOf}
 use Rattle.spec_format.specs.ParsedLines.{parsedOf}
 use Rattle.spec_format.specs.Reading.{reading, accepted}
 use Rattle.spec_machine.specs.Memory.{afterUpdate, memory, movesOf}
+use Rattle.spec_machine.specs.Counters.{isCounter}
 use Rattle.spec_machine.specs.Steps.{sameVersion, stage, item}
 use Rattle.spec_machine.specs.Machine.{openingOf, stored, carriedOut, itemOf, seen}
 use Rattle.spec_machine.specs.Entries.{judge, acted}
@@ -72,6 +73,10 @@ accepted-three = refl
 -- So demand 3 holds of it, whatever the entries.
 pub demand3-three : (es : List Entry) → Demand3 threeCards es
 demand3-three = demand3 Form.PlanAlone _ threeCards [] 12 accepted-three
+
+-- Of its four words two are counters: word 1, which is only added to, and word 3, which nothing writes.
+pub counters-three : map (isCounter (threeCards .updates)) (0 ∷ 1 ∷ 2 ∷ 3 ∷ []) ≡ false ∷ true ∷ false ∷ true ∷ []
+counters-three = refl
 
 -- `call job update`.
 abbrev call : ℕ → ℕ → Entry

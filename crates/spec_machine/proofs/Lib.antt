@@ -2,8 +2,9 @@
 -- with its clauses, which opens with what they mean and why a step keeps them in plain words, and a file that shows
 -- that every item of the step list keeps them (CardsKept, EpochsKept and so on).
 
--- The sum of an add.
+-- The sum of an add, and words that are only added to.
 pub mod Sums
+pub mod Counters
 -- The state by functions in place of lists, and that the list machine does what the functions say.
 pub mod ChangedAt
 pub mod View

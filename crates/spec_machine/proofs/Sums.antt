@@ -1,5 +1,5 @@
--- The sum of an add, on which a counter rests: it is at most the largest word, exact wherever that fits, and else the
--- largest word, where it stands; and of several adds to a word only the total counts. Assumes nothing.
+-- The sum of an add: it is at most the largest word, exact wherever that fits, and else the largest word. Assumes
+-- nothing.
 use Prim.Native.Nat.{ℕ, _+_, _≤_, _<_}
 use mathlib.Core.Path.{_≡_}
 use native.Mathlib.Omega.{arith}
@@ -17,7 +17,3 @@ sum-exact word k fits = omega arith
 -- "Add gives 4,294,967,295 where the sum would be more."
 pub sum-stops : (word k : ℕ) → largest < word + k → sum word k ≡ largest
 sum-stops word k more = omega arith
-
--- One add after another is one add of both: a counter that cards add to has the same word in whatever order they do.
-pub sum-total : (word j k : ℕ) → sum (sum word j) k ≡ sum word (j + k)
-sum-total word j k = omega arith

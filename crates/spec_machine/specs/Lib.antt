@@ -1,6 +1,7 @@
 -- The machine as definitions, from the bottom up.
 pub mod Selected
 pub mod Memory
+pub mod Counters
 pub mod Places
 pub mod Status
 pub mod Working
