@@ -1,8 +1,8 @@
 //! Document 01 with document 02's runs of steps, update numbers, plan writer and counters that stop in plain Rust: the
 //! text's check (numbers 1 to 10, 16 and 17), the machine (the step list A1 to H42, refusals 11 to 14), the report
-//! (refusal 15), the run of a schedule of records beside a plan's text, and the writer of the one text for either. It is
-//! an independent implementation, written from the documents alone; the proved one is compared with it, in its answers
-//! and in its time. It also counts a run's late stores and stopped sums. Nothing here is proved.
+//! (refusal 15), the run of a schedule of records beside a plan's text, and the writer of the one text for either. It
+//! is an independent implementation, written from the documents alone; the proved one is compared with it, in its
+//! answers and in its time. It also counts a run's late stores and stopped sums. Nothing here is proved.
 
 /// The most cards, jobs, blocks, words of a block, and blocks that one update may write.
 const CARDS: usize = 8;
@@ -54,7 +54,8 @@ pub struct Late {
     pub h42_status: usize, // Stat[hid] is not wid
 }
 
-/// What is counted of a run: its late stores, and its sums that stopped at the largest word.
+/// What is counted of a run: its late stores, and its sums that stopped at the largest word, those that never reached
+/// the bank included.
 #[derive(Clone, Copy, Debug, Default, PartialEq, Eq)]
 pub struct Counts {
     pub late: Late,

@@ -104,8 +104,8 @@ impl Tally {
         self.first = self.first.take().into_iter().chain(other.first).min_by_key(|first| first.0);
     }
 
-    /// Whether runs of steps, stopped sums, each number, each order about 17 and each late store were met often. A plan's
-    /// text has no runs, so that nothing beside it is refused with 16.
+    /// Whether runs of steps, stopped sums, each number, each order about 17 and each late store were met often. A
+    /// plan's text has no runs, so that nothing beside it is refused with 16.
     fn is_enough(&self) -> bool {
         let [check, check_plan, run, schedule] = &self.numbers;
         let checks = check[..11].iter().chain(&check_plan[..11]);
@@ -138,7 +138,9 @@ impl Tally {
         for (place, name) in LATE.iter().enumerate() {
             println!("{name:36} {:>12} {:>12}", self.late[place], self.late_cases[place]);
         }
-        println!("{:36} {:>12} {:>12}", "sum that stops", self.stopped_sums, self.stopped_sum_cases);
+        println!();
+        println!("{:36} {:>12} {:>12}", "sum", "times", "in cases");
+        println!("{:36} {:>12} {:>12}", "stops at 4,294,967,295", self.stopped_sums, self.stopped_sum_cases);
     }
 }
 

@@ -1,32 +1,45 @@
--- An event counter stands at the top: after any entries it is its opening word and all that the committed calls have
--- added to it, or the largest word where that is more. Assumes nothing.
-use Prim.Native.Nat.{ℕ, zero, suc, _+_, _≤_, _<_}
-use mathlib.Core.Path.{_≡_, refl, sym, _∙_}
+-- A counter shows its opening word and all that was added to it, or the largest word where that is more: in the
+-- one-after-another memory by induction over moves, calls and entries, and so, by demand 3, through the bank of every
+-- run of an accepted plan. Assumes nothing.
+use Prim.Native.Nat.{ℕ, zero, suc, _+_, _*_, _/_, _%_, _≤_, _<_, min}
+use mathlib.Core.Path.{_≡_, refl, sym, _∙_, ap}
 use mathlib.Core.Bool.{Bool, true, false, not, _&&_, true≢false, false≢true}
 use mathlib.Core.List.{List, [], _∷_, foldl, map}
 use native.Mathlib.Omega.{arith}
+use native.Mathlib.Nat.{div-add-mod', mod-lt, div-lt-iff-lt-mul}
 use lib.Dec.{eqb}
 use lib.ListN.{length, getD, set, length-set}
 use lib.Seq.{getD-set-same, getD-set-other}
 use borrow.Author.Tests.{eqb-true, eqb-false, not-true}
 use Rattle.spec_text.specs.Numbers.{largest}
 use Rattle.spec_text.proofs.Cases.{neither}
+use Rattle.spec_format.specs.declared.Form.{Form}
 use Rattle.spec_format.specs.declared.Entry.{Entry}
 use Rattle.spec_format.specs.declared.Move.{Move}
-use Rattle.spec_format.specs.Plan.{any}
+use Rattle.spec_format.specs.Plan.{Plan, Listed, any}
+use Rattle.spec_format.specs.Reading.{reading, accepted}
+use Rattle.spec_format.specs.Sound.{Sound}
+use Rattle.spec_format.proofs.Sound.{accepted-sound}
+use Rattle.spec_format.proofs.Tabulated.{getD-tabulate}
+use Rattle.spec_format.proofs.Fits.{accepted-fits, fit-at}
 use Rattle.spec_machine.specs.Memory.{sum, afterMove, afterUpdate, Commit, movesOf, committedBy, memory}
+use Rattle.spec_machine.specs.Machine.{blockIn, seen}
+use Rattle.spec_machine.specs.History.{commitsIn, runOf}
+use Rattle.spec_machine.specs.Demand3.{memoryAfter, Holds}
 use Rattle.spec_machine.specs.Counters.{replaces, isCounter, addedBy, total, addedIn, addedAfter}
+use Rattle.spec_machine.specs.Counters.{counted, wordSeen, CounterSeen}
 use Rattle.spec_machine.proofs.Sums.{sum-at-most}
 use Rattle.spec_machine.proofs.Tests.{choice}
+use Rattle.spec_machine.proofs.Demand3.{holds-after}
 
--- Of two tests, the first of which passes, the second passes too.
+-- Where a test does not pass without another, and passes, so does the other.
 implied : (a b : Bool) → (a && not b) ≡ false → a ≡ true → b ≡ true
 implied true true e t = refl
 implied true false e t = absurd (true≢false e)
 implied false b e t = absurd (false≢true t)
 
 module _ (d : ℕ) where
-  -- Words among which word d is, at most the largest word.
+  -- Words that have a word d, which is at most the largest word.
   record Kept (words : List ℕ) : Type 0 where
     there : d < length words
     fits : getD words d 0 ≤ largest
@@ -36,7 +49,7 @@ module _ (d : ℕ) where
     many : length next ≡ length words
     word : getD next d 0 ≡ sum (getD words d 0) k
 
-  -- It still is.
+  -- Word d is still there, and at most the largest word.
   kept : {k : ℕ} {words next : List ℕ} → Kept words → Adds k words next → Kept next
   kept {k} {words} w a =
       record {
@@ -102,7 +115,7 @@ none-there f [] u h = refl
 none-there f (l ∷ lists) zero h = neither (any f l) (any (any f) lists) h .0
 none-there f (l ∷ lists) (suc u) h = none-there f lists u (neither (any f l) (any (any f) lists) h .1)
 
--- No test passes that never does.
+-- A test that is always false passes nowhere.
 never : {A : Type 0} (xs : List A) → any (λ _. false) xs ≡ false
 never [] = refl
 never (x ∷ xs) = never xs
@@ -128,10 +141,10 @@ module _ (opening : List ℕ) (updates : List (List Move)) (entries : List Entry
       (committedBy commits (suc n)) (memory opening updates entries commits n) (never (committedBy commits (suc n)))
       (kept d (record { there = there; fits = fits }) so-far))
 
-  -- A counter after n entries.
+  -- The counter after n entries.
   pub counter-total : (n : ℕ)
       → getD (memory opening updates entries commits n) d 0
-      ≡ sum (getD opening d 0) (addedAfter d updates entries commits n)
+      ≡ min (getD opening d 0 + addedAfter d updates entries commits n) largest
   counter-total n = by-entries n .word
 
   -- So no entry lowers it.
@@ -139,3 +152,73 @@ module _ (opening : List ℕ) (updates : List (List Move)) (entries : List Entry
       (n : ℕ)
       → getD (memory opening updates entries commits n) d 0 ≤ getD (memory opening updates entries commits (suc n)) d 0
   counter-never-falls n = omega (arith, counter-total n, counter-total (suc n))
+
+-- The word of a block at a word's place, where the block is the word's.
+in-block : (s : ℕ) (words : List ℕ) (w : ℕ) → 0 < s → getD (blockIn s words (w / s)) (w % s) 0 ≡ getD words w 0
+in-block s words w h =
+    getD-tabulate s (λ i. getD words (w / s * s + i) 0) 0 (w % s) (mod-lt w h) ∙ rw (div-add-mod' w s)
+
+-- What a counter of an accepted plan shows, after any entries.
+pub counter-seen :
+    (form : Form) (text : List ℕ) (plan : Plan) (listed : List Listed) (lines : ℕ)
+    → reading form text ≡ accepted plan listed lines → (es : List Entry) (d : ℕ)
+    → d < plan .sizes .blocks * plan .sizes .words → isCounter (plan .updates) d ≡ true
+    → CounterSeen plan es (runOf plan es) d
+counter-seen form text plan listed lines read es d low counter =
+    record {
+      settled = λ none. shows words (holds .settled none block below) ∙ in-memory;
+      kept = λ c decided unstored. shows words (holds .kept c block decided below unstored) ∙ in-memory;
+      stored =
+          λ c decided is-stored.
+          shows (afterUpdate words (movesOf (plan .updates) es c)) (holds .stored c block decided below is-stored)
+          ∙ with-call c;
+    }
+  where
+    ok : Sound plan
+    ok = accepted-sound form text plan listed lines read
+
+    holds : Holds plan es (runOf plan es)
+    holds = holds-after plan ok es
+
+    so-far : List Commit
+    so-far = commitsIn (runOf plan es .history)
+
+    words : List ℕ
+    words = memoryAfter plan es (runOf plan es .history)
+
+    block : ℕ
+    block = d / plan .sizes .words
+
+    positive : 0 < plan .sizes .words
+    positive = omega (arith, ok .some-word)
+
+    below : block < plan .sizes .blocks
+    below = div-lt-iff-lt-mul positive .1 low
+
+    there : d < length (plan .words)
+    there = rw (ok .all-words) low
+
+    fits : getD (plan .words) d 0 ≤ largest
+    fits = fit-at (plan .words) d (accepted-fits form text plan listed lines read .words)
+
+    after : Adds d (addedAfter d (plan .updates) es so-far (length es)) (plan .words) words
+    after = by-entries (plan .words) (plan .updates) es so-far d counter there fits (length es)
+
+    in-memory : getD words d 0 ≡ min (counted plan es (runOf plan es) d) largest
+    in-memory = after .word
+
+    with-call :
+        (c : ℕ)
+        → getD (afterUpdate words (movesOf (plan .updates) es c)) d 0
+        ≡ min (counted plan es (runOf plan es) d + addedIn d (movesOf (plan .updates) es c)) largest
+    with-call c =
+        omega (
+          arith,
+          in-memory,
+          by-call (plan .words) (plan .updates) es so-far d counter there fits words c refl
+              (kept d (record { there = there; fits = fits }) after) .word,
+        )
+
+    shows : (ws : List ℕ) → seen plan (runOf plan es .machine) block ≡ blockIn (plan .sizes .words) ws block
+        → wordSeen plan (runOf plan es .machine) d ≡ getD ws d 0
+    shows ws e = ap (λ l. getD l (d % plan .sizes .words) 0) e ∙ in-block (plan .sizes .words) ws d positive

@@ -31,7 +31,7 @@ use Rattle.spec_machine.proofs.Answer.{holds-of}
 use Rattle.spec_machine.proofs.StockRule.{bank-seen, stock-when-none-decided}
 
 -- After any entries, what demand 3 says of a run holds.
-holds-after : (plan : Plan) → Sound plan → (es : List Entry) → Holds plan es (runOf plan es)
+pub holds-after : (plan : Plan) → Sound plan → (es : List Entry) → Holds plan es (runOf plan es)
 holds-after plan ok es =
     let l : Layers plan es _ _ = always plan ok es .layers in
     holds-of plan ok es (runOf plan es) (l .memory) (l .counts) (l .cards) (l .epochs) (l .contents) (l .bypass)

@@ -5,6 +5,7 @@ use Prim.Native.Nat.{ℕ}
 use mathlib.Core.Path.{_≡_, refl}
 use mathlib.Core.Bool.{Bool, true, false}
 use mathlib.Core.List.{List, [], _∷_, _++_, map}
+use lib.Dec.{lit≤}
 use lib.ListN.{length, replicate}
 use Rattle.spec_text.specs.Bytes.{bytes}
 use Rattle.spec_text.specs.Lines.{lines, fields}
@@ -17,13 +18,14 @@ use Rattle.spec_format.specs.Kinds.{kindOf}
 use Rattle.spec_format.specs.ParsedLines.{parsedOf}
 use Rattle.spec_format.specs.Reading.{reading, accepted}
 use Rattle.spec_machine.specs.Memory.{afterUpdate, memory, movesOf}
-use Rattle.spec_machine.specs.Counters.{isCounter}
 use Rattle.spec_machine.specs.Steps.{sameVersion, stage, item}
 use Rattle.spec_machine.specs.Machine.{openingOf, stored, carriedOut, itemOf, seen}
 use Rattle.spec_machine.specs.Entries.{judge, acted}
 use Rattle.spec_machine.specs.History.{Run, begun, entered, runOf}
 use Rattle.spec_machine.specs.Demand3.{isDecidedUncommitted, isStored, passing, memoryAfter, Demand3}
+use Rattle.spec_machine.specs.Counters.{isCounter, CounterSeen}
 use Rattle.spec_machine.proofs.Demand3.{demand3}
+use Rattle.spec_machine.proofs.Counters.{counter-seen}
 
 -- The plan of document 01's run T.
 abbrev pub planT : Plan
@@ -77,6 +79,10 @@ demand3-three = demand3 Form.PlanAlone _ threeCards [] 12 accepted-three
 -- Of its four words two are counters: word 1, which is only added to, and word 3, which nothing writes.
 pub counters-three : map (isCounter (threeCards .updates)) (0 ∷ 1 ∷ 2 ∷ 3 ∷ []) ≡ false ∷ true ∷ false ∷ true ∷ []
 counters-three = refl
+
+-- So it is known what word 1 shows, whatever the entries.
+pub counter-three : (es : List Entry) → CounterSeen threeCards es (runOf threeCards es) 1
+counter-three es = counter-seen Form.PlanAlone _ threeCards [] 12 accepted-three es 1 (lit≤ tt) refl
 
 -- `call job update`.
 abbrev call : ℕ → ℕ → Entry

@@ -1,10 +1,9 @@
--- The proof of demand 3 and of the stock rule, in the order in which it is read. A layer of the invariant has a file
+-- The proof of demand 3 and of the stock rule, and of counters, in the order in which it is read. A layer of the invariant has a file
 -- with its clauses, which opens with what they mean and why a step keeps them in plain words, and a file that shows
 -- that every item of the step list keeps them (CardsKept, EpochsKept and so on).
 
--- The sum of an add, and words that are only added to.
+-- The sum of an add.
 pub mod Sums
-pub mod Counters
 -- The state by functions in place of lists, and that the list machine does what the functions say.
 pub mod ChangedAt
 pub mod View
@@ -46,5 +45,7 @@ pub mod EveryRun
 pub mod Answer
 pub mod StockRule
 pub mod Demand3
+-- What words show that the updates only add to.
+pub mod Counters
 -- Plans that are accepted, and a state in which both cases of the memory clause are met.
 pub mod Examples

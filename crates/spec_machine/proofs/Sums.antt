@@ -1,5 +1,5 @@
--- The sum of an add: it is at most the largest word, exact wherever that fits, and else the largest word. Assumes
--- nothing.
+-- The sum of an add: it is at most the largest word; it is word + k wherever that fits, and else the largest word.
+-- Assumes nothing.
 use Prim.Native.Nat.{ℕ, _+_, _≤_, _<_}
 use mathlib.Core.Path.{_≡_}
 use native.Mathlib.Omega.{arith}

@@ -1,7 +1,6 @@
 -- The machine as definitions, from the bottom up.
 pub mod Selected
 pub mod Memory
-pub mod Counters
 pub mod Places
 pub mod Status
 pub mod Working
@@ -14,3 +13,4 @@ pub mod Entries
 pub mod History
 pub mod Demand3
 pub mod StockRule
+pub mod Counters

@@ -4,7 +4,6 @@ pub mod Runnable
 pub mod LongestRuns
 pub mod FullyJoined
 pub mod Length
-pub mod Fits
 pub mod Leads
 pub mod PlanReadBack
 pub mod EntriesReadBack

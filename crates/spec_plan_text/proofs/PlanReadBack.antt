@@ -31,7 +31,7 @@ use Rattle.spec_format.specs.Sound.{Sound}
 use Rattle.spec_format.proofs.RunIsSteps.{numbered}
 use Rattle.spec_plan_text.specs.PlanText.{planLine, jobLine, blockWords, blockLine, moveLine, moveIn}
 use Rattle.spec_plan_text.specs.PlanText.{updateLines, jobLines, openingBlockLines, allUpdateLines, planText}
-use Rattle.spec_plan_text.proofs.Fits.{AmountFits, Fits, fit-take, fit-drop}
+use Rattle.spec_format.proofs.Fits.{AmountFits, Fits, fit-take, fit-drop}
 use Rattle.spec_plan_text.proofs.Leads.{saying, Leads, leads-then, joined-leads, line-leads}
 
 -- A test that no element of a list passes finds none.

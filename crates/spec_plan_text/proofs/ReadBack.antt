@@ -18,7 +18,7 @@ use Rattle.spec_format.proofs.RunIsSteps.{no-lines}
 use Rattle.spec_plan_text.specs.EntryLines.{plain}
 use Rattle.spec_plan_text.specs.PlanText.{textOf}
 use Rattle.spec_plan_text.proofs.Runnable.{AllRunnable}
-use Rattle.spec_plan_text.proofs.Fits.{Fits}
+use Rattle.spec_format.proofs.Fits.{Fits}
 use Rattle.spec_plan_text.proofs.Leads.{Leads, leads-then}
 use Rattle.spec_plan_text.proofs.PlanReadBack.{laid, counting, plan-leads}
 use Rattle.spec_plan_text.proofs.EntriesReadBack.{schedule-leads}

@@ -41,7 +41,7 @@ use Rattle.spec_plan_text.specs.LongestText.{longestText}
 use Rattle.spec_plan_text.proofs.Runnable.{AllRunnable}
 use Rattle.spec_plan_text.proofs.LongestRuns.{KnownKinds, plain-text, only-longest}
 use Rattle.spec_plan_text.proofs.Length.{text-short}
-use Rattle.spec_plan_text.proofs.Fits.{Fits, accepted-fits}
+use Rattle.spec_format.proofs.Fits.{Fits, accepted-fits}
 use Rattle.spec_plan_text.proofs.ReadBack.{read-back}
 use Rattle.spec_plan_text.proofs.SameRun.{no-others, known-kinds, plain-run, run-runnable, plain-report}
 use Rattle.spec_plan_text.proofs.ReadEntries.{read-kinds, read-plain}

@@ -1,6 +1,6 @@
--- The runs that document 01 lists, those of them with joined steps, and a few that pin what these do not show, as rows
--- of one table, and the theorem that each text gives what its row says, by computation on the definitions. Assumes
--- nothing.
+-- The runs that document 01 lists, as document 02 has them, those of them with joined steps, and a few that pin what
+-- these do not show, as rows of one table, and the theorem that each text gives what its row says, by computation on the
+-- definitions. Assumes nothing.
 use Prim.Native.Nat.{ℕ}
 use Prim.Native.String.{String}
 use mathlib.Core.Path.{_≡_, refl}
@@ -121,6 +121,11 @@ rows =
     ∷ record {
       text = twoBlocks (update "add\t1\t0\t2\n" (callAndSteps 37));
       printed = "commit\t33\t0\t0\nblock\t5\nblock\t7\nend\t0\t44\n";
+    }
+    -- "event counters stand at the top": one that stops at its second call, and stands at its third;
+    ∷ record {
+      text = oneJob 1 4294967290 (update "add\t0\t0\t4\n" (callAndSteps 33 ++ (callAndSteps 33 ++ callAndSteps 33)));
+      printed = "commit\t29\t0\t0\ncommit\t63\t0\t0\ncommit\t97\t0\t0\nblock\t4294967295\nend\t0\t107\n";
     }
     -- "`open job status` for each active job, by job number", of job 1 alone and of both
     ∷ record {

@@ -56,7 +56,7 @@ fit-drop (suc n) [] fit = tt
 fit-drop (suc n) (m ∷ ns) fit = fit-drop n ns (fit .1)
 
 -- and the one at a place, which is 0 past the last.
-fit-at : (ns : List ℕ) (i : ℕ) → AllFit ns → getD ns i 0 ≤ largest
+pub fit-at : (ns : List ℕ) (i : ℕ) → AllFit ns → getD ns i 0 ≤ largest
 fit-at [] i fit = omega arith
 fit-at (n ∷ ns) zero fit = fit .0
 fit-at (n ∷ ns) (suc i) fit = fit-at ns i (fit .1)
