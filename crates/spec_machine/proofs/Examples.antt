@@ -1,6 +1,7 @@
 -- The theorems are about something: two plans that are accepted, so that demand 3 holds of each with every list of
--- entries, one of them with words that are counters and others; a state that a schedule reaches in which both cases of
--- the memory clause are met; and one in which the bound on the calls that pass another is reached. Assumes nothing.
+-- entries, one of them with words that are counters and words that are not; a state that a schedule reaches in which
+-- both cases of the memory clause are met; and one in which the bound on the calls that pass another is reached.
+-- Assumes nothing.
 use Prim.Native.Nat.{ℕ}
 use mathlib.Core.Path.{_≡_, refl}
 use mathlib.Core.Bool.{Bool, true, false}

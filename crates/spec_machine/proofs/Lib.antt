@@ -1,6 +1,6 @@
--- The proof of demand 3 and of the stock rule, and of counters, in the order in which it is read. A layer of the invariant has a file
--- with its clauses, which opens with what they mean and why a step keeps them in plain words, and a file that shows
--- that every item of the step list keeps them (CardsKept, EpochsKept and so on).
+-- The proofs of demand 3, of the stock rule and of what counters show, in the order in which they are read. A layer of
+-- the invariant has a file with its clauses, which opens with what they mean and why a step keeps them in plain words,
+-- and a file that shows that every item of the step list keeps them (CardsKept, EpochsKept and so on).
 
 -- The sum of an add.
 pub mod Sums

@@ -36,18 +36,18 @@ abbrev pub total : List ℕ → ℕ
 total [] = 0
 total (n ∷ ns) = n + total ns
 
--- What the moves of an update add to it.
+-- What the moves of an update add to a counter d.
 abbrev pub addedIn : ℕ → List Move → ℕ
 addedIn d moves = total (map (addedBy d) moves)
 
--- What the calls that the first n entries commit add to it: the exact number.
+-- What the calls that the first n entries commit add to a counter d: the exact number.
 abbrev pub addedAfter : ℕ → List (List Move) → List Entry → List Commit → ℕ → ℕ
 addedAfter d updates entries commits zero = 0
 addedAfter d updates entries commits (suc n) =
     addedAfter d updates entries commits n
     + total (map (λ call. addedIn d (movesOf updates entries call)) (committedBy commits (suc n)))
 
--- Its opening word and what the calls committed so far have added.
+-- The opening word of a counter d and what the calls committed so far have added to it.
 abbrev pub counted : Plan → List Entry → Run → ℕ → ℕ
 counted plan es r d = getD (plan .words) d 0 + addedAfter d (plan .updates) es (commitsIn (r .history)) (length es)
 
@@ -58,7 +58,8 @@ wordSeen plan m w = getD (seen plan m (blockOf (plan .sizes .words) w)) (w % pla
 -- What a counter d shows after some entries and the run that they gave: all that was counted, or the largest word
 -- where that is more.
 pub record CounterSeen (plan : Plan) (es : List Entry) (r : Run) (d : ℕ) : Type 0 where
-  -- Where no update is decided and uncommitted, what is counted is what the committed calls have added;
+  -- Where no update is decided and uncommitted, what is counted is the opening word and what the committed calls have
+  -- added;
   pub settled :
       ((c : ℕ) → isDecidedUncommitted (r .history) c ≡ false) →
       wordSeen plan (r .machine) d ≡ min (counted plan es r d) largest

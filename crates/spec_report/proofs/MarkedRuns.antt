@@ -1,6 +1,6 @@
 -- The runs that document 01 lists, as document 02 has them, those of them with joined steps, and a few that pin what
--- these do not show, as rows of one table, and the theorem that each text gives what its row says, by computation on the
--- definitions. Assumes nothing.
+-- these do not show, as rows of one table, and the theorem that each text gives what its row says, by computation on
+-- the definitions. Assumes nothing.
 use Prim.Native.Nat.{ℕ}
 use Prim.Native.String.{String}
 use mathlib.Core.Path.{_≡_, refl}
