@@ -9,8 +9,8 @@
 // the writer (writing.rs). All are shared by two threads, whose stacks are as long as include/point_memory.h asks for.
 // Printed are the counts of cases and differences, how often runs of steps, stopped sums, each number, each order of
 // judgement about 17 and each late store were met, and what the writer met. The status is 1 where something differs or
-// was hardly met.
-// The first case that differs is then in target/difference.txt, and `target/compare NUMBER` runs it alone.
+// was hardly met. The first case that differs is then in target/difference.txt, and `target/compare NUMBER` runs it
+// alone.
 
 mod cases;
 #[path = "../bench/library.rs"]
