@@ -1,5 +1,6 @@
 // Checks the text on standard input and writes its answer, `end number line`, to standard output; of a refusal a line
 // on standard error says in plain words what it means.
+#![tactic(auto)]
 use program_streams::TEXT;
 use public_messages::MESSAGE;
 use public_printing::ANSWER;

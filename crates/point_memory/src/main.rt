@@ -1,5 +1,6 @@
 // Runs the text on standard input and writes its report to standard output, or `end number line` alone where there is
 // no report (1 to 10, 16 and 17); of a refusal a line on standard error says in plain words what it means.
+#![tactic(auto)]
 use program_streams::TEXT;
 use public_messages::MESSAGE;
 use public_printing::OUTPUT;

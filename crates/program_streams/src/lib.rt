@@ -1,5 +1,6 @@
 // Reading and writing for the programs. A read or a write that fails is not taken for the end: a line on standard error
 // says what failed.
+#![tactic(auto)]
 ghost use Rattle.std.specs.Prelude.{◌+◌, ◌-◌, ◌≤◌, length};
 ghost use Rattle.io.specs.Counts.{IsPrefixLen};
 ghost use Rattle.program_streams.specs.Streams.{AtMost};
@@ -11,14 +12,14 @@ use libc::{STDERR_FILENO, STDIN_FILENO, STDOUT_FILENO};
 pub const TEXT: usize = 65537;
 
 // What reading to the end came to: how many bytes were read, and whether a read failed.
-#[derive(Drop)]
+#[derive(Clone, Copy)]
 pub struct Input {
     pub failed: bool,
     pub length: usize,
 }
 
 // What one call came to: it moved so many bytes, or it failed.
-#[derive(Drop)]
+#[derive(Clone, Copy)]
 enum Moved {
     Bytes(usize),
     Failed,

@@ -1,5 +1,6 @@
 // The functions that other languages link (`rt staticlib public_point_memory`, include/point_memory.h). A slice is
 // passed as a pointer and a length. None has a `requires`, and none is handed a state.
+#![tactic(auto)]
 ghost use Rattle.std.specs.Prelude.{◌≡◌};
 ghost use Rattle.spec_format.specs.Reading.{reading, verdict_of};
 ghost use Rattle.spec_report.specs.Outcomes.{run_text, run_schedule, left};

@@ -1,5 +1,6 @@
 // What the programs print: public functions that fill a buffer of fixed length with the bytes. None has a `requires`,
 // and none is handed a state.
+#![tactic(auto)]
 ghost use Rattle.std.specs.Prelude.{◌≡◌, List, ℕ};
 ghost use Rattle.spec_text.specs.FirstPlaces.{in_first_places};
 ghost use Rattle.spec_format.specs.Reading.{reading, verdict_of};
@@ -20,7 +21,7 @@ pub const ANSWER: usize = 16;
 
 // What a text came to: its number in the table with its line, the number of the entry that is refused, from 1, or 0
 // where none is, and how many bytes of the buffer are to be printed.
-#[derive(Drop)]
+#[derive(Clone, Copy)]
 pub struct Printed {
     pub number: u32,
     pub line: u32,

@@ -1,4 +1,5 @@
 // The public functions of the point memory machine. None has a `requires`, and none is handed a state.
+#![tactic(auto)]
 ghost use Rattle.std.specs.Prelude.{◌≡◌};
 ghost use Rattle.spec_format.specs.Reading.{reading, verdict_of};
 ghost use Rattle.spec_report.specs.Outcomes.{run_text, handed, left};
@@ -11,7 +12,7 @@ use spec_format::{Form, Verdict};
 
 // A number of the table with its line: 0 with the count of all lines, or a refusal with the line where it was met.
 #[repr(C)]
-#[derive(Drop)]
+#[derive(Clone, Copy)]
 pub struct Answer {
     pub number: usize,
     pub line: usize,

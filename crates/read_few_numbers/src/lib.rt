@@ -1,4 +1,5 @@
 // The numbers of a line that has at most three.
+#![tactic(auto)]
 ghost use Rattle.std.specs.Prelude.{◌≡◌, ◌≤◌, ◌+◌, length};
 ghost use Rattle.spec_text.specs.Lines.{numbers};
 ghost use Rattle.read_fields.specs.FieldPlaces.{fields_at};
@@ -7,7 +8,7 @@ ghost use Rattle.read_few_numbers.specs.Three.{as_three};
 use read_fields::{Numbers, read_numbers};
 
 // The numbers of a line that has at most three, 0 for those that it has not.
-#[derive(Drop)]
+#[derive(Clone, Copy)]
 pub enum Three {
     Are(u32, u32, u32),
     Bad,

@@ -1,5 +1,6 @@
 // The parts of a text: the next line feed or tab, the number in a field, the numbers of a line. Each function
 // equals its definition in specs/. Assumes nothing.
+#![tactic(auto)]
 ghost use Rattle.std.specs.Prelude.{◌≡◌, ◌≤◌, ◌+◌, length};
 ghost use Rattle.spec_text.specs.Numbers.{number};
 ghost use Rattle.spec_text.specs.Lines.{numbers};
@@ -8,14 +9,14 @@ ghost use Rattle.read_fields.specs.FieldPlaces.{place_of, field_at, fields_at, r
 use spec_text::Number;
 
 // The number in a field, with the place where the next field starts.
-#[derive(Drop)]
+#[derive(Clone, Copy)]
 pub enum Field {
     Value(u32, usize),
     Bad,
 }
 
 // Whether the fields of a line hold the numbers asked for.
-#[derive(Drop)]
+#[derive(Clone, Copy)]
 pub enum Numbers {
     Read,
     Bad,

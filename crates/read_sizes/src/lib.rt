@@ -1,4 +1,6 @@
 // The ranges of the sizes of a plan.
+#![tactic(auto)]
+
 ghost use Rattle.std.specs.Prelude.{◌≡◌};
 ghost use Rattle.spec_format.specs.Faults.{in_range};
 

@@ -1,5 +1,6 @@
 // A whole text is read once, line by line: its plan is put into the plan's table as it is read, and its entry lines are
 // noted in theirs.
+#![tactic(auto)]
 ghost use Rattle.std.specs.Prelude.{◌≡◌, ◌≤◌, ◌<◌, length};
 ghost use Rattle.spec_format.specs.Reading.{reading};
 ghost use Rattle.read_tables.specs.PlanTable.{empty_plan};
@@ -13,14 +14,14 @@ use read_tables::{NOTE_PLACES, PLAN_PLACES};
 use spec_format::{Fault, Form, Verdict};
 
 // A place in a text, and how much has been read before it.
-#[derive(Drop)]
+#[derive(Clone, Copy)]
 pub struct Cursor {
     pub progress: Progress,
     pub at: usize,
 }
 
 // The answer of reading one line on.
-#[derive(Drop)]
+#[derive(Clone, Copy)]
 pub enum Advance {
     Next(Cursor),
     Refused(Fault, usize),
@@ -28,7 +29,7 @@ pub enum Advance {
 
 // What reading a text answers: the verdict and, where the text is accepted, how many entry lines were noted, and how
 // many single entries they hold.
-#[derive(Drop)]
+#[derive(Clone, Copy)]
 pub struct Parsed {
     pub verdict: Verdict,
     pub notes: usize,

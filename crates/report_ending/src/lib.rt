@@ -1,5 +1,6 @@
 // How a run ends: the number and the line of its end, and its report, written into the lent buffer where there is room
 // for it.
+#![tactic(auto)]
 ghost use Rattle.std.specs.Prelude.{◌≡◌, [], ◌≤◌};
 ghost use Rattle.spec_format.specs.Faults.{number_of};
 ghost use Rattle.spec_report.specs.Report.{largest_number, end_number, end_line, end_entry};
@@ -16,7 +17,7 @@ use spec_report::End;
 use step_cells::CELL_PLACES;
 
 // How a call ended, and how many bytes it has written: the length of the report, or of a written text.
-#[derive(Drop)]
+#[derive(Clone, Copy)]
 pub struct WrittenEnd {
     pub end: End,
     pub length: usize,
@@ -25,7 +26,7 @@ pub struct WrittenEnd {
 // How a call ended: its number in the table with its line, and how many bytes it has written: the length of the report,
 // or of a written text, 0 where nothing is written.
 #[repr(C)]
-#[derive(Drop)]
+#[derive(Clone, Copy)]
 pub struct Ended {
     pub number: usize,
     pub line: usize,

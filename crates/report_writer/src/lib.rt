@@ -1,4 +1,5 @@
 // A whole report, written into a lent buffer. It is measured first, by writing it where there is next to no room.
+#![tactic(auto)]
 ghost use Rattle.std.specs.Prelude.{[]};
 ghost use Rattle.step_cells.specs.Tables.{lent};
 ghost use Rattle.report_bytes.specs.Writes.{Writes};
@@ -8,7 +9,7 @@ use read_tables::PLAN_PLACES;
 use step_cells::CELL_PLACES;
 
 // What was written: the length of the whole, or that there is no room for it.
-#[derive(Drop)]
+#[derive(Clone, Copy)]
 pub enum WrittenLength {
     Whole(usize),
     NoRoom,

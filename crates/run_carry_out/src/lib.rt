@@ -1,4 +1,5 @@
 // What an item changes, carried out in the tables that are lent.
+#![tactic(auto)]
 ghost use Rattle.std.specs.Prelude.{◌≡◌};
 ghost use Rattle.step_cells.specs.Tables.{lent, Whole};
 ghost use Rattle.step_cells.specs.Effects.{Carried};

@@ -1,5 +1,6 @@
 // The single entries of notes run from the opening on, where only how the run ends is wanted. The machine's tables and
 // the array of records are made here, and are gone when the run has ended.
+#![tactic(auto)]
 ghost use Rattle.std.specs.Prelude.{◌≤◌, take};
 ghost use Rattle.spec_format.specs.Sound.{Sound};
 ghost use Rattle.read_tables.specs.PlanTable.{plan_in};
@@ -14,7 +15,7 @@ use step_cells::CELL_PLACES;
 
 // How a run ended: the number of the refusal that stopped it, 0 where none did; how many entries were accepted; and the
 // place of the first record of another kind, 0 where there is none.
-#[derive(Drop)]
+#[derive(Clone, Copy)]
 pub struct RunEnd {
     pub halt: u32,
     pub entries: usize,

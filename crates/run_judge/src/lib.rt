@@ -1,4 +1,5 @@
 // What an entry comes to in a state: a call, an item of a job, or a refusal; and what a record comes to in a run.
+#![tactic(auto)]
 ghost use Rattle.std.specs.Prelude.{◌≡◌, ◌≤◌};
 ghost use Rattle.read_tables.specs.PlanTable.{sizes_in, plan_in};
 ghost use Rattle.spec_machine.specs.Machine.{Machine};
@@ -15,7 +16,7 @@ use step_cells::CELL_PLACES;
 
 // What a record comes to: the judgement, and the place of the first record of another kind so far, 0 where there is
 // none.
-#[derive(Drop)]
+#[derive(Clone, Copy)]
 pub struct Ruling {
     pub judgement: Judgement,
     pub other: u32,

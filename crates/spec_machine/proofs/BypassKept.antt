@@ -863,8 +863,8 @@ module _ (plan : Plan) (acc : Accepted (layout plan)) (sh : Shared) (job : ℕ �
       rw shut-test (test Good _ _ _
       (λ _.
       store-elim (λ x. Good (doing (Store.Bank (job p).addr (job p).new) x)) (job p)
-      (stay refl refl refl refl (rw e) tt) (stay refl refl refl refl (rw e) tt))
-      (λ _. store-elim (λ x. Good (quiet x)) (job p) (calm _ (rw e) tt) (calm _ (rw e) tt)))
+      (stay refl refl refl refl (simp e) tt) (stay refl refl refl refl (simp e) tt))
+      (λ _. store-elim (λ x. Good (quiet x)) (job p) (calm _ (simp e) tt) (calm _ (simp e) tt)))
   items Place.H42 e c fl guard fk part =
       rw shut-test (test Good _ _ _
       (λ t.

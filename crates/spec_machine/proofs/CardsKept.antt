@@ -278,8 +278,8 @@ module _ (plan : Plan) (acc : Accepted (layout plan)) (sh : Shared) (job : ℕ �
   items Place.H41 e own =
       rw shut-test
       (test Good _ _ _ (λ _. store-elim (λ x. Good (doing (Store.Bank (job p).addr (job p).new) x)) (job p)
-      (stay refl (λ _. refl) (rw e) refl) (stay refl (λ _. refl) (rw e) refl))
-      (λ _. store-elim (λ x. Good (quiet x)) (job p) (calm _ (rw e) refl) (calm _ (rw e) refl)))
+      (stay refl (λ _. refl) (simp e) refl) (stay refl (λ _. refl) (simp e) refl))
+      (λ _. store-elim (λ x. Good (quiet x)) (job p) (calm _ (simp e) refl) (calm _ (simp e) refl)))
   items Place.H42 e own =
       rw shut-test (test Good _ _ _ (λ _. means (job p).hid (pos plan.sizes.jobs) finished _ true
       (finished-means plan.sizes.jobs)

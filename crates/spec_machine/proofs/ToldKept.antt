@@ -1294,8 +1294,8 @@ module _
       rw shut-test (test (Good Place.H41) _ _ _
       (λ _.
       store-elim (λ x. Good Place.H41 (doing (Store.Bank (job p).addr (job p).new) x)) (job p)
-      (puts _ e refl refl (rw e)) (puts _ e refl refl (rw e)))
-      (λ _. store-elim (λ x. Good Place.H41 (quiet x)) (job p) (calm e tt refl (rw e)) (calm e tt refl (rw e))))
+      (puts _ e refl refl (simp e)) (puts _ e refl refl (simp e)))
+      (λ _. store-elim (λ x. Good Place.H41 (quiet x)) (job p) (calm e tt refl (simp e)) (calm e tt refl (simp e))))
   items Place.H42 e = rw shut-test (test (Good Place.H42) _ _ _ (commits-call e) (λ _. calm e tt refl (rw e)))
 
   -- The item that p stands before.

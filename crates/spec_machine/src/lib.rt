@@ -1,10 +1,11 @@
 // The types of the machine. specs/ has the step list, the one-after-another memory, the history, the ranges of its
 // numbers, demand 3 and the stock rule as definitions over these types, and proofs/ the proof of demand 3 and of the
 // stock rule. No code.
+#![tactic(auto)]
 
 // The stage of a read or a write that a job is inside of. A read has Check, List and Take; a write has Check, List,
 // Copy and Write.
-#[derive(Drop)]
+#[derive(Clone, Copy)]
 pub enum Stage {
     Check,
     List,
@@ -14,7 +15,7 @@ pub enum Stage {
 }
 
 // Where a job stands in the step list: not active, before an item, or inside a move.
-#[derive(Drop)]
+#[derive(Clone, Copy)]
 pub enum Place {
     Idle,
     A1,
@@ -41,14 +42,14 @@ pub enum Place {
 }
 
 // A value of V: a count and a flag (cnt and needhelp of the source).
-#[derive(Drop)]
+#[derive(Clone, Copy)]
 pub struct Version {
     pub count: u32,
     pub flag: bool,
 }
 
 // A job's working record: its private variables, named as in the source, and where it is in the update it runs.
-#[derive(Drop)]
+#[derive(Clone, Copy)]
 pub struct Working {
     pub place: Place,
     // the update that its latest call names
@@ -84,7 +85,7 @@ pub struct Working {
 }
 
 // The shared cells except the store and the rows. Statuses have a cell more, Stat[N]; numblks are the rows' counts.
-#[derive(Drop)]
+#[derive(Clone, Copy)]
 pub struct Cells {
     pub v: Version,
     pub ann: [u8; 8],
@@ -95,7 +96,7 @@ pub struct Cells {
 }
 
 // What one item stores in a shared cell, at most one a step.
-#[derive(Drop)]
+#[derive(Clone, Copy)]
 pub enum Store {
     Nothing,
     // V becomes (count, flag)
@@ -120,7 +121,7 @@ pub enum Store {
 
 // What one item gives: the running job's next working record, the store, and whether the condition of H25, H41 or H42
 // held (false for every other item).
-#[derive(Drop)]
+#[derive(Clone, Copy)]
 pub struct Out {
     pub work: Working,
     pub store: Store,
@@ -128,7 +129,7 @@ pub struct Out {
 }
 
 // The refusals that an entry can meet: 11 to 14 of the table, in its order.
-#[derive(Drop)]
+#[derive(Clone, Copy)]
 pub enum Refusal {
     NoSuch,
     Active,
@@ -137,7 +138,7 @@ pub enum Refusal {
 }
 
 // What an entry comes to in a state: it calls a job with an update, a job does its next item, or it is refused.
-#[derive(Drop)]
+#[derive(Clone, Copy)]
 pub enum Judgement {
     Calls(usize, usize),
     Runs(usize),

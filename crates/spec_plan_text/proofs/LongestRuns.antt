@@ -103,7 +103,7 @@ step-longest card (run other n ∷ ls) h =
     by-test (eqb other card)
     (λ t.
     let same : other ≡ card = eqb-true other card t in
-    rw t (resized card n (suc n) ls (omega arith) (rw same at h)))
+    rw t (resized card n (suc n) ls (omega arith) (subst (λ (x : ℕ). Longest (run x n ∷ ls)) same h)))
     (λ t. rw t (omega arith, (λ q. eqb-false other card t (sym q), h)))
 
 -- The entry lines of single entries have the longest runs.

@@ -45,7 +45,7 @@ use Rattle.spec_machine.specs.History.{latest, Run, unless_refused, begun, judge
 use Rattle.spec_machine.specs.Ranges.{StatusIn, MoveInside, RoomFor, AtPlace, Ranges}
 use Rattle.spec_machine.proofs.View.{is_undecided, State, state_in, finished-is, undecided-is}
 use Rattle.spec_machine.proofs.ListMachine.{job-seen, call-judged, step-judged}
-use Rattle.spec_machine.proofs.Tests.{shut-test, test, and_l, and_r, same_version}
+use Rattle.spec_machine.proofs.Tests.{shut-test, test, and_l, and_r, same_version_lem}
 use Rattle.spec_machine.proofs.SmallSteps.{ahead, attempt, copy_of, layout}
 use Rattle.spec_machine.proofs.Attempts.{Shape, Own}
 use Rattle.spec_machine.proofs.AttemptSteps.{copy-lt}
@@ -178,7 +178,7 @@ module _ (plan : Plan) (ok : Sound plan) where
           → length (replaced (in_row m.addrlist p) (in_row m.oldlist p) w.dirty w.numblks) ≤ 8
       unfolding state_in
       few-replaced e t =
-          let ev : w.ver ≡ m.cells.v = same_version m.cells.v w.ver (search and_l) in
+          let ev : w.ver ≡ m.cells.v = same_version_lem m.cells.v w.ver (search and_l) in
           let f : m.cells.v.flag ≡ true = ap (λ (x : Version). x.flag) (sym ev) ∙ rw e at epoch.flag in
           let u : same_status ((shared_in plan m).stat w.hid) (negsuc 0) ≡ true = search and_r in
           let c : w.hid ≡ head plan s.sh A.layers.memory s.job = rw e at (epoch.fresh ev f) in
@@ -207,7 +207,7 @@ module _ (plan : Plan) (ok : Sound plan) where
         unfolding state_in
         helped-active =
             let t = may-commit in
-            let ev : w.ver ≡ m.cells.v = same_version m.cells.v w.ver (search and_l) in
+            let ev : w.ver ≡ m.cells.v = same_version_lem m.cells.v w.ver (search and_l) in
             let f : m.cells.v.flag ≡ true =
             ap (λ (x : Version). x.flag) (sym ev) ∙ (rw at-commit at epoch.flag).0 in
             let c : w.hid ≡ head plan s.sh A.layers.memory s.job =

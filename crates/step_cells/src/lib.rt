@@ -1,5 +1,6 @@
 // The shared cells, and what is kept beside them, in one table of numbers that is lent: an accessor for each, and the
 // types of the step list's code. specs/CellTable.antt says where each number stands; the code of no other crate knows.
+#![tactic(auto)]
 ghost use Rattle.std.specs.Prelude.{◌≡◌, ℕ, ◌+◌, ◌*◌, ◌≤◌, ◌<◌, eqb, get_or, set};
 ghost use Rattle.step_cells.specs.CellTable.{cell_places, entries_at, committed_at, halt_at, other_at, ann_at};
 ghost use Rattle.step_cells.specs.CellTable.{running_at};
@@ -60,7 +61,7 @@ const OWN: usize = 64;
 // The scalars of a job's working record (spec_machine::Working): its registers. Its marks, its numbers of this run, its
 // copy list and the update that it was called with stand in the cells. The loop copies registers whole: in this order
 // they take 32 bytes, and of the orders that do it is among the fastest.
-#[derive(Drop)]
+#[derive(Clone, Copy)]
 pub struct Registers {
     pub word: u32,
     pub ver: Version,
@@ -82,7 +83,7 @@ pub struct Registers {
 }
 
 // What an item changes in the tables: the store of the step list, and what it changes of the job's own places.
-#[derive(Drop)]
+#[derive(Clone, Copy)]
 pub enum Change {
     Nothing,
     // V becomes (count, flag)
@@ -115,7 +116,7 @@ pub enum Change {
 }
 
 // What an item gives: the job's next registers, the change, and whether the condition of H25, H41 or H42 held.
-#[derive(Drop)]
+#[derive(Clone, Copy)]
 pub struct Effect {
     pub registers: Registers,
     pub change: Change,

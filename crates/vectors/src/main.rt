@@ -8,6 +8,7 @@
 // INLEN bytes of text, RECLEN bytes of records and OUTLEN bytes of what must come out. ROOM is the length of the buffer
 // that is lent, or `-` for one that is large enough. The records, of schedules alone, are lines of three numbers, a
 // kind and two more, parted by one space.
+#![tactic(auto)]
 ghost use Rattle.std.specs.Prelude.{◌+◌, ◌≤◌, ◌<◌, length};
 ghost use Rattle.vectors_cases.specs.CaseParts.{CasePlaced};
 ghost use Rattle.vectors.specs.LowTally.{Low};
@@ -23,14 +24,14 @@ use vectors_cases::{Next, Parts, RECORDS, Records, Room};
 const ROOM: usize = 1400000;
 
 // Whether the check's answer and the run's output are what a case says.
-#[derive(Drop)]
+#[derive(Clone, Copy)]
 struct Agreed {
     check: bool,
     run: bool,
 }
 
 // What became of a case.
-#[derive(Drop)]
+#[derive(Clone, Copy)]
 enum CaseResult {
     Ran(Agreed),
     Scheduled(bool),

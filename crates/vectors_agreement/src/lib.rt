@@ -1,5 +1,6 @@
 // The texts of cases are checked, run and written, and what comes of a case is compared with what it says: a line goes
 // to standard output where the two differ, and for each pack how many cases agree.
+#![tactic(auto)]
 ghost use Rattle.std.specs.Prelude.{◌≤◌, length};
 ghost use Rattle.io.specs.Counts.{IsPrefixLen};
 
@@ -13,14 +14,14 @@ use spec_text::Number;
 pub const MARKER: u8 = 170;
 
 // What the last line of a case's output says.
-#[derive(Drop)]
+#[derive(Clone, Copy)]
 pub enum Ending {
     Read(Answer),
     Malformed,
 }
 
 // How many cases of a kind were tried, and how many of them agree.
-#[derive(Drop)]
+#[derive(Clone, Copy)]
 pub struct Tally {
     pub agree: usize,
     pub tried: usize,

@@ -1,4 +1,5 @@
 // The cases of a pack, taken apart: where their parts stand, what their first lines say, and their records.
+#![tactic(auto)]
 ghost use Rattle.std.specs.Prelude.{◌≤◌, ◌<◌, length};
 ghost use Rattle.vectors_cases.specs.CaseParts.{Within};
 
@@ -9,7 +10,7 @@ use spec_text::Number;
 pub const RECORDS: usize = 4002;
 
 // The lengths of a case's text, of its records and of its output.
-#[derive(Drop)]
+#[derive(Clone, Copy)]
 struct Lengths {
     text: usize,
     records: usize,
@@ -17,14 +18,14 @@ struct Lengths {
 }
 
 // What a case's first line says.
-#[derive(Drop)]
+#[derive(Clone, Copy)]
 enum Header {
     Read(Lengths),
     Malformed,
 }
 
 // Where a case's parts end in its pack: its first line, its text, its records and its output.
-#[derive(Drop)]
+#[derive(Clone, Copy)]
 pub struct Parts {
     pub header: usize,
     pub text: usize,
@@ -33,28 +34,28 @@ pub struct Parts {
 }
 
 // What stands at a place of a pack.
-#[derive(Drop)]
+#[derive(Clone, Copy)]
 pub enum Next {
     Case(Parts),
     Malformed,
 }
 
 // How much room a case has for what is written.
-#[derive(Drop)]
+#[derive(Clone, Copy)]
 pub enum Room {
     Bytes(usize),
     Malformed,
 }
 
 // What a record's line says.
-#[derive(Drop)]
+#[derive(Clone, Copy)]
 enum RecordRead {
     Read(Entry),
     Malformed,
 }
 
 // The records of a case, and how many there are. They are malformed where a line is no record or there are too many.
-#[derive(Drop)]
+#[derive(Clone, Copy)]
 pub struct Records {
     pub entries: [Entry; RECORDS],
     pub count: usize,

@@ -1,4 +1,5 @@
 // A plan's text with a schedule of records: what comes before the records run.
+#![tactic(auto)]
 ghost use Rattle.std.specs.Prelude.{◌≡◌, length};
 ghost use Rattle.read_tables.specs.PlanTable.{empty_plan};
 ghost use Rattle.read_tables.specs.NoteTable.{note_places};
@@ -11,7 +12,7 @@ use step_cells::CELL_PLACES;
 
 // What a plan's text and the count of the records come to before any record runs: the verdict on the text, and how many
 // records run.
-#[derive(Drop)]
+#[derive(Clone, Copy)]
 pub struct Begun {
     pub verdict: Verdict,
     pub n: usize,

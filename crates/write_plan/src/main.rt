@@ -1,6 +1,7 @@
 // Writes the text on standard input anew: the one text of its plan and its single entries goes to standard output, or
 // `end number line` alone where its run is refused; of a refusal a line on standard error says in plain words what it
 // means.
+#![tactic(auto)]
 use program_streams::TEXT;
 use public_messages::MESSAGE;
 use public_printing::OUTPUT;
