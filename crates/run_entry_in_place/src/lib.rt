@@ -21,12 +21,12 @@ pub fn act_where_kept<'a, 'b>(
     new: &'b mut [[u32; 16]; 16],
     commits: &'b mut [[u32; 3]; 4000],
 )
-    requires { Asked plan.now ruling w.old
+    requires { Asked plan.now ruling w.now
         (lent cells.old stat.old store.old addr.old old.old new.old commits.old) }
-    ensures { Gives plan.now ruling w.old
+    ensures { Gives plan.now ruling w.entry.now
         (lent cells.old stat.old store.old addr.old old.old
         new.old commits.old)
-        w.new
+        w.exit.now
         (lent cells.new stat.new store.new addr.new old.new
         new.new commits.new) }
 {

@@ -14,18 +14,16 @@ use Rattle.read_plan_lines.proofs.block_line.Goals as goal
 
 pub returns : goal.returns
 returns c =
-    let read : let a = c.args in
-    let size = (sizes_in a.plan.now).words in
-    WordsRead c.read_part.result (words_at + a.p.blocks * size) size (fields_at a.line.now a.at)
-    a.plan.now
-    c.read_part.new.table =     let a = c.args in
-    let size = c.sizes-sizes.result.words in
-    let end : words_at + a.p.blocks * size + size - (words_at + a.p.blocks * size) ≡ size = omega arith in
+    let read :     let size = (sizes_in c.args.plan.now).words in
+    WordsRead c.read_part.result (words_at + c.args.p.blocks * size) size (fields_at c.args.line.now c.args.at)
+    c.args.plan.now
+    c.read_part.new.table =         let size = c.sizes-sizes.result.words in
+    let end : words_at + c.args.p.blocks * size + size - (words_at + c.args.p.blocks * size) ≡ size = omega arith in
     subst
     (λ (y : Sizes).
-    WordsRead c.read_part.result (words_at + a.p.blocks * y.words) y.words
-    (fields_at a.line.now a.at)
-    a.plan.now
+    WordsRead c.read_part.result (words_at + c.args.p.blocks * y.words) y.words
+    (fields_at c.args.line.now c.args.at)
+    c.args.plan.now
     c.read_part.new.table)
     c.sizes-sizes.ensures
     (rw end at c.read_part.ensures) in

@@ -18,15 +18,11 @@ is j k = eqb k.card j.card && eqb k.priority j.priority
 
 pub returns-then-same_job : goal.returns-then-same_job
 returns-then-same_job c =
-    let tested : let a = c.args in
-    is (record { card = a.card; priority = a.priority }) (job_at a.plan.now c.loop-i.i)
-    ≡ c.same_job.result = let a = c.args in
-    sym
+    let tested :     is (record { card = c.args.card; priority = c.args.priority }) (job_at c.args.plan.now c.loop-i.i)
+    ≡ c.same_job.result =     sym
     (c.same_job.ensures
-    ∙ ap₂ (λ x y. eqb x a.card && eqb y a.priority) c.card.ensures
+    ∙ ap₂ (λ x y. eqb x c.args.card && eqb y c.args.priority) c.card.ensures
     c.priority.ensures) in
-    let l = c.loop-i in
-    let a = c.args in
     sym
-    (found (is (record { card = a.card; priority = a.priority })) (job_at a.plan.now) a.n l.i (omega arith)
+    (found (is (record { card = c.args.card; priority = c.args.priority })) (job_at c.args.plan.now) c.args.n c.loop-i.i (omega arith)
     (tested ∙ c.if-same_job.true))

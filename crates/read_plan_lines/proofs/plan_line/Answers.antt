@@ -38,7 +38,7 @@ returns c =
     })) in
     λ e.
                 plan-read _ c.args.plan.now _ e _ (the_sizes) (says-plan)
-    (sym c.in_range.ensures ∙ not-false _ c.if-not-in_range.false)
+    (sym c.in_range.ensures ∙ c.if-not-in_range.false)
     c.requires.1.0
     c.requires.1.1
     (put-alike

@@ -15,8 +15,8 @@ use Rattle.run_active_jobs.proofs.first_on.Given as goal
 
 abbrev pub invariant-loop-k : goal.invariant-loop-k
 invariant-loop-k l =
-    (l.k ≤ (sizes_in l.plan).l.jobs)
-    × ((l.best ≤ (sizes_in l.plan).l.jobs) × (l.best ≡ first_on l.plan (places l.cells active_at 16) l.card l.k))
+    (l.k ≤ (sizes_in l.plan).jobs)
+    × ((l.best ≤ (sizes_in l.plan).jobs) × (l.best ≡ first_on l.plan (places l.cells active_at 16) l.card l.k))
 
 abbrev pub decreases-loop-k : goal.decreases-loop-k
 decreases-loop-k l =

@@ -7,12 +7,11 @@ use Rattle.run_active_jobs.proofs.set_active.Goals as goal
 
 pub returns : goal.returns
 returns c =
-    let a = c.args in
     rw (
       c.put_running.ensures,
       c.put_active.ensures,
       c.first_on-first.ensures,
       c.card-card.ensures,
       c.put_active.ensures,
-      places-in a.cells.now active_at 16 a.p a.up (omega (arith, c.requires)) (omega (arith, c.requires)),
+      places-in c.args.cells.now active_at 16 c.args.p c.args.up (omega (arith, c.requires)) (omega (arith, c.requires)),
     )

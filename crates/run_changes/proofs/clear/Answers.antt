@@ -7,6 +7,5 @@ use Rattle.run_changes.proofs.clear.Goals as goal
 
 pub returns : goal.returns
 returns c =
-    let l = c.loop-b in
-    let all : l.b ≡ 16 = omega arith in
-    clear-all _ _ _ (rw all at l.invariant.1)
+    let all : c.loop-b.b ≡ 16 = omega arith in
+    clear-all _ _ _ (rw all at c.loop-b.invariant.1)

@@ -10,20 +10,17 @@ use Rattle.run_changes.proofs.copy_words.Goals as goal
 
 pub loop-i-preserved : goal.loop-i-preserved
 loop-i-preserved c =
-    let l = c.loop-i in
-        let a = c.args in
-    let d = a.store.now in
-    let size : length d ≡ 2304 = c.requires.store_len.0 in
-    let part = drop a.from d in (
+    let size : length c.args.store.now ≡ 2304 = c.requires.store_len.0 in
+    let part = drop c.args.from c.args.store.now in (
       omega arith,
       (
-        length-set l.store (a.to + l.i) _ ∙ l.invariant.1.0,
+        length-set c.loop-i.store (c.args.to + c.loop-i.i) _ ∙ c.loop-i.invariant.1.0,
         rw (
-          l.invariant.1.1,
-          still d a.words a.from a.to l.i (omega arith) (omega arith) (omega arith) c.requires.words_bound,
+          c.loop-i.invariant.1.1,
+          still c.args.store.now c.args.words c.args.from c.args.to c.loop-i.i (omega arith) (omega arith) (omega arith) c.requires.words_bound,
           add-one,
-          ← get_or-drop a.from d l.i 0,
+          ← get_or-drop c.args.from c.args.store.now c.loop-i.i 0,
         )
-            (paste-suc d a.to part l.i 0 (omega arith) (rw (length-drop a.from d) (omega arith))),
+            (paste-suc c.args.store.now c.args.to part c.loop-i.i 0 (omega arith) (rw (length-drop c.args.from c.args.store.now) (omega arith))),
       ),
     )

@@ -6,6 +6,5 @@ use Rattle.run_changes.proofs.mark.Goals as goal
 
 pub returns : goal.returns
 returns c =
-    let a = c.args in
     rw (c.put_curr.ensures, c.put_dirty.ensures)
-    (marks a.cells.now a.p a.b a.mark a.number (omega arith) (omega arith))
+    (marks c.args.cells.now c.args.p c.args.b c.args.mark c.args.number (omega arith) (omega arith))

@@ -13,53 +13,38 @@ use Rattle.run_changes.proofs.reclaim.Goals as goal
 
 pub put_copy-requires : goal.put_copy-requires
 put_copy-requires c =
-    let marked : let a = c.args in
-    let l = c.loop-i in
-    c.dirty.result ≡ get_or (places a.cells.now (dirty_at a.p) 16) (get_or a.t4 l.i 0) 0 = let a = c.args in
-    let l = c.loop-i in
-    c.dirty.ensures 0 ∙ ap (λ k. get_or k (get_or a.t4 l.i 0) 0) (puts-marks a.p _ _ _ l.invariant.1.1) in
-    let place : c.loop-i.used < 8 =     let a = c.args in
-    omega (
+    let marked :         c.dirty.result ≡ get_or (places c.args.cells.now (dirty_at c.args.p) 16) (get_or c.args.addr c.loop-i.i 0) 0 =         c.dirty.ensures 0 ∙ ap (λ k. get_or k (get_or c.args.addr c.loop-i.i 0) 0) (puts-marks c.args.p _ _ _ c.loop-i.invariant.1.1) in
+    let place : c.loop-i.used < 8 =         omega (
       arith,
       c.loop-i.invariant.1.0,
       c.requires.n_len_bound,
-      has-place (λ k. get_or a.t4 k 0) (λ k. get_or a.t5 k 0) (places a.cells.now (dirty_at a.p) 16)
+      has-place (λ k. get_or c.args.addr k 0) (λ k. get_or c.args.old k 0) (places c.args.cells.now (dirty_at c.args.p) 16)
           c.loop-i.i
-          a.n
+          c.args.n
           c.loop-i-test.true (sym (marked) ∙ c.if-dirty-eq2.true),
     ) in
     (omega arith, omega (arith, place))
 
 pub overflow_add-used : goal.overflow_add-used
 overflow_add-used c =
-    let marked : let a = c.args in
-    let l = c.loop-i in
-    c.dirty.result ≡ get_or (places a.cells.now (dirty_at a.p) 16) (get_or a.t4 l.i 0) 0 = let a = c.args in
-    let l = c.loop-i in
-    c.dirty.ensures 0 ∙ ap (λ k. get_or k (get_or a.t4 l.i 0) 0) (puts-marks a.p _ _ _ l.invariant.1.1) in
-    let place : c.loop-i.used < 8 =     let a = c.args in
-    omega (
+    let marked :         c.dirty.result ≡ get_or (places c.args.cells.now (dirty_at c.args.p) 16) (get_or c.args.addr c.loop-i.i 0) 0 =         c.dirty.ensures 0 ∙ ap (λ k. get_or k (get_or c.args.addr c.loop-i.i 0) 0) (puts-marks c.args.p _ _ _ c.loop-i.invariant.1.1) in
+    let place : c.loop-i.used < 8 =         omega (
       arith,
       c.loop-i.invariant.1.0,
       c.requires.n_len_bound,
-      has-place (λ k. get_or a.t4 k 0) (λ k. get_or a.t5 k 0) (places a.cells.now (dirty_at a.p) 16)
+      has-place (λ k. get_or c.args.addr k 0) (λ k. get_or c.args.old k 0) (places c.args.cells.now (dirty_at c.args.p) 16)
           c.loop-i.i
-          a.n
+          c.args.n
           c.loop-i-test.true (sym (marked) ∙ c.if-dirty-eq2.true),
     ) in
     record { fits = omega (arith, place) }
 
 pub loop-i-preserved : goal.loop-i-preserved
 loop-i-preserved c =
-    let marked : let a = c.args in
-    let l = c.loop-i in
-    c.dirty.result ≡ get_or (places a.cells.now (dirty_at a.p) 16) (get_or a.t4 l.i 0) 0 = let a = c.args in
-    let l = c.loop-i in
-    c.dirty.ensures 0 ∙ ap (λ k. get_or k (get_or a.t4 l.i 0) 0) (puts-marks a.p _ _ _ l.invariant.1.1) in
-    let a = c.args in
-    let addr : ℕ → ℕ = λ k. get_or a.t4 k 0 in
-    let old : ℕ → ℕ = λ k. get_or a.t5 k 0 in
-    let marks = places a.cells.now (dirty_at a.p) 16 in
+    let marked :         c.dirty.result ≡ get_or (places c.args.cells.now (dirty_at c.args.p) 16) (get_or c.args.addr c.loop-i.i 0) 0 =         c.dirty.ensures 0 ∙ ap (λ k. get_or k (get_or c.args.addr c.loop-i.i 0) 0) (puts-marks c.args.p _ _ _ c.loop-i.invariant.1.1) in
+    let addr : ℕ → ℕ = λ k. get_or c.args.addr k 0 in
+    let old : ℕ → ℕ = λ k. get_or c.args.old k 0 in
+    let marks = places c.args.cells.now (dirty_at c.args.p) 16 in
     let ns = replaced addr old marks c.loop-i.i in
     ⊎_elim
     (λ w.
@@ -70,7 +55,7 @@ loop-i-preserved c =
       (
         omega (arith, w.4, c.loop-i.invariant.1.0, ap length more ∙ length-append ns (old c.loop-i.i ∷ [])),
         rw (more, w.3, w.2.ensures, c.loop-i.invariant.1.0)
-            (puts-more a.p (old c.loop-i.i) ns _ _ (omega arith) room c.loop-i.invariant.1.1),
+            (puts-more c.args.p (old c.loop-i.i) ns _ _ (omega arith) room c.loop-i.invariant.1.1),
       ),
     ))
     (λ w.
@@ -80,7 +65,5 @@ loop-i-preserved c =
 
 pub returns : goal.returns
 returns c =
-    let l = c.loop-i in
-    let a = c.args in
-    let all : l.i ≡ a.n = omega arith in
-    puts-all a.p a.n (λ k. get_or a.t4 k 0) (λ k. get_or a.t5 k 0) _ _ (rw all at l.invariant.1.1)
+    let all : c.loop-i.i ≡ c.args.n = omega arith in
+    puts-all c.args.p c.args.n (λ k. get_or c.args.addr k 0) (λ k. get_or c.args.old k 0) _ _ (rw all at c.loop-i.invariant.1.1)

@@ -14,6 +14,7 @@ use Rattle.step_cells.specs.CellTable.{version_in}
 use Rattle.step_cells.specs.Effects.{Does}
 use Rattle.step_shared.proofs.Card.{card-in}
 use Rattle.step_counter.proofs.a7.Goals as goal
+use Rattle.step_counter.proofs.a7.Goals.{then-is_finished+else-is_elsewhere, else-is_finished}
 
 pub returns-then-is_elsewhere-clause-does : goal.returns-then-is_elsewhere-clause-does
 unfolding Does item
@@ -40,7 +41,19 @@ pub returns-then-v-clause-does : goal.returns-then-v-clause-does
 unfolding Does item
 returns-then-v-clause-does c =
     λ x is stat-is.
-                  let v = c.version-v.ensures in
+                  let none : ℤ = pos (sizes_in c.args.plan.now).jobs in
+      let stays : (same_status (get_or c.args.stat.now c.args.w.lid none) none
+          && (not (eqb ((version_in c.args.cells.now).count % (sizes_in c.args.plan.now).cards)
+          (job_at c.args.plan.now c.args.p).card)
+          || not (version_in c.args.cells.now).flag)) ≡ false
+      = elim c.if-is_finished.branch [
+            then-is_finished+else-is_elsewhere w ↦
+                rw (← c.is_finished.ensures none, w.if-is_finished.true)
+                (rw (w.is_elsewhere.ensures, c.version-v.ensures, w.cards.ensures, w.card.ensures)
+                at w.if-is_elsewhere.false)
+            | else-is_finished w ↦ rw (← c.is_finished.ensures none, w.if-is_finished.false)
+          ] in
+      let v = c.version-v.ensures in
       rw (
         c.quiet-then-v.ensures,
         c.go_to-then-v.ensures,
@@ -48,7 +61,7 @@ returns-then-v-clause-does c =
         is,
         stat-is,
         card-in c.requires.0,
-        stays c,
+        stays,
         rw v at c.if-v.true,
       )
 
@@ -56,7 +69,19 @@ pub returns-clause-does : goal.returns-clause-does
 unfolding Does item
 returns-clause-does c =
     λ x is stat-is.
-                  let v = c.version-v.ensures in
+                  let none : ℤ = pos (sizes_in c.args.plan.now).jobs in
+      let stays : (same_status (get_or c.args.stat.now c.args.w.lid none) none
+          && (not (eqb ((version_in c.args.cells.now).count % (sizes_in c.args.plan.now).cards)
+          (job_at c.args.plan.now c.args.p).card)
+          || not (version_in c.args.cells.now).flag)) ≡ false
+      = elim c.if-is_finished.branch [
+            then-is_finished+else-is_elsewhere w ↦
+                rw (← c.is_finished.ensures none, w.if-is_finished.true)
+                (rw (w.is_elsewhere.ensures, c.version-v.ensures, w.cards.ensures, w.card.ensures)
+                at w.if-is_elsewhere.false)
+            | else-is_finished w ↦ rw (← c.is_finished.ensures none, w.if-is_finished.false)
+          ] in
+      let v = c.version-v.ensures in
       rw (
         c.quiet-2.ensures,
         c.go_to-2.ensures,
@@ -64,6 +89,6 @@ returns-clause-does c =
         is,
         stat-is,
         card-in c.requires.0,
-        stays c,
+        stays,
         rw v at c.if-v.false,
       )

@@ -32,47 +32,41 @@ loop-i-init c = (omega arith, omega arith, refl)
 pub add-m-requires-clause-m_bound : goal.add-m-requires-clause-m_bound
 add-m-requires-clause-m_bound c =
     let all-records : length c.args.records ≡ 4000 = c.well-formed.0.1.0.1 in
-    let l = c.loop-i in
-        let so_far = take l.i c.args.records in
-    let many : length so_far ≡ l.i = length-take-le l.i c.args.records (omega (arith, all-records)) in (
-      (omega (arith, many, no_more so_far l.m l.notes l.invariant.2), l.invariant.1),
-      rw l.invariant.2
+    let so_far = take c.loop-i.i c.args.records in
+    let many : length so_far ≡ c.loop-i.i = length-take-le c.loop-i.i c.args.records (omega (arith, all-records)) in (
+      (omega (arith, many, no_more so_far c.loop-i.m c.loop-i.notes c.loop-i.invariant.2), c.loop-i.invariant.1),
+      rw c.loop-i.invariant.2
           (at_most (length so_far) 4000 (longest_runs so_far) (omega (arith, many)) (steps-at-most so_far)),
     )
 
 pub add-m-requires-clause-steps_at_most : goal.add-m-requires-clause-steps_at_most
 add-m-requires-clause-steps_at_most c =
     let all-records : length c.args.records ≡ 4000 = c.well-formed.0.1.0.1 in
-    let l = c.loop-i in
-        let so_far = take l.i c.args.records in
-    let many : length so_far ≡ l.i = length-take-le l.i c.args.records (omega (arith, all-records)) in (
-      (omega (arith, many, no_more so_far l.m l.notes l.invariant.2), l.invariant.1),
-      rw l.invariant.2
+    let so_far = take c.loop-i.i c.args.records in
+    let many : length so_far ≡ c.loop-i.i = length-take-le c.loop-i.i c.args.records (omega (arith, all-records)) in (
+      (omega (arith, many, no_more so_far c.loop-i.m c.loop-i.notes c.loop-i.invariant.2), c.loop-i.invariant.1),
+      rw c.loop-i.invariant.2
           (at_most (length so_far) 4000 (longest_runs so_far) (omega (arith, many)) (steps-at-most so_far)),
     )
 
 pub loop-i-preserved : goal.loop-i-preserved
 loop-i-preserved c =
     let all-records : length c.args.records ≡ 4000 = c.well-formed.0.1.0.1 in
-    let l = c.loop-i in
-        let records = c.args.records in
-    let e = get_or records l.i no_record in (
+    let e = get_or c.args.records c.loop-i.i no_record in (
       omega arith,
-      c.add-m.ensures.long ∙ l.invariant.1,
+      c.add-m.ensures.long ∙ c.loop-i.invariant.1,
       c.add-m.ensures.lines_are
-          ∙ ap (add_last e) l.invariant.2
-          ∙ sym (one_more (take l.i records) e)
-          ∙ ap longest_runs (sym (take-suc records l.i no_record (omega (arith, all-records))))
-          ∙ ap (λ k. longest_runs (take k records)) (sym (add-one l.i)),
+          ∙ ap (add_last e) c.loop-i.invariant.2
+          ∙ sym (one_more (take c.loop-i.i c.args.records) e)
+          ∙ ap longest_runs (sym (take-suc c.args.records c.loop-i.i no_record (omega (arith, all-records))))
+          ∙ ap (λ k. longest_runs (take k c.args.records)) (sym (add-one c.loop-i.i)),
     )
 
 pub returns : goal.returns
 returns c =
-    let l = c.loop-i in
-    let records = c.args.records in
-    let all : l.i ≡ c.args.n = omega (arith, l.invariant.0, c.loop-i-test.false) in
+    let all : c.loop-i.i ≡ c.args.n = omega (arith, c.loop-i.invariant.0, c.loop-i-test.false) in
     record {
-      few = rw (← all) (no_more (take l.i records) l.m l.notes l.invariant.2);
-      whole = l.invariant.1;
-      lines_are = l.invariant.2 ∙ ap (λ k. longest_runs (take k records)) all;
+      few = rw (← all) (no_more (take c.loop-i.i c.args.records) c.loop-i.m c.loop-i.notes c.loop-i.invariant.2);
+      whole = c.loop-i.invariant.1;
+      lines_are = c.loop-i.invariant.2 ∙ ap (λ k. longest_runs (take k c.args.records)) all;
     }

@@ -20,7 +20,7 @@ pub bounds-part-at-2 : goal.bounds-part-at-2
 bounds-part-at-2 c = omega (arith, next_place c.loop-rest.invariant (omega arith) (omega arith))
 
 pub returns-clause-n_value : goal.returns-clause-n_value
-returns-clause-n_value c = last c.loop-rest.invariant (omega arith) (omega arith) (omega arith)
+returns-clause-n_value c = (last c.loop-rest.invariant (omega arith) (omega arith) (omega arith)).0
 
 pub returns-clause-part_after : goal.returns-clause-part_after
-returns-clause-part_after c = last c.loop-rest.invariant (omega arith) (omega arith) (omega arith)
+returns-clause-part_after c = (last c.loop-rest.invariant (omega arith) (omega arith) (omega arith)).1

@@ -1,0 +1,25 @@
+use Prim.Native.Nat.{ℕ, ◌+◌, ◌-◌, ◌*◌, ◌≤◌}
+use mathlib.Core.Path.{◌≡◌, refl, ◌∙◌}
+use mathlib.Core.List.{List, [], ◌∷◌, ◌++◌, map}
+use native.Mathlib.Omega.{arith}
+use lib.ListN.{length, get_or}
+use lib.Seq.{take_all}
+use Rattle.spec_text.specs.Decimal.{decimal}
+use Rattle.spec_text.specs.WrittenLines.{fields_behind}
+use Rattle.spec_report.specs.Report.{joined}
+use Rattle.report_bytes.specs.Writes.{Writes}
+use Rattle.report_bytes.proofs.Writes.{nothing, then, once_more, widen, renamed, keeps}
+use Rattle.report_bytes.proofs.LoopParts.{joined_of}
+use Rattle.report_bytes.proofs.put_fields.Given as goal
+
+-- The field at a place, behind its tab.
+abbrev pub one : List ℕ → ℕ → List ℕ
+one numbers i = 9 ∷ decimal (get_or numbers i 0)
+
+abbrev pub invariant-loop-i : goal.invariant-loop-i
+invariant-loop-i l =
+    (l.i ≤ length l.numbers) × Writes (joined l.i (one l.numbers)) (11 * l.i) l.at l.initial.buffer l.next l.buffer
+
+abbrev pub decreases-loop-i : goal.decreases-loop-i
+decreases-loop-i l =
+    length l.numbers - l.i

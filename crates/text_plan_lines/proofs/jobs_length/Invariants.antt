@@ -1,0 +1,25 @@
+use Prim.Native.Nat.{ℕ, ◌-◌, ◌*◌, ◌≤◌, ◌<◌}
+use mathlib.Core.Path.{◌≡◌, sym, ap, ◌∙◌}
+use mathlib.Core.List.{List}
+use native.Mathlib.Omega.{arith}
+use borrow.Author.Rules.{rules}
+use lib.ListN.{length}
+use Rattle.spec_format.specs.Plan.{job_in}
+use Rattle.spec_report.specs.Report.{joined}
+use Rattle.spec_plan_text.specs.PlanText.{job_line}
+use Rattle.read_tables.specs.PlanTable.{sizes_in, plan_in}
+use Rattle.text_lines.proofs.JoinedLines.{joined-length-more}
+use Rattle.text_plan_lines.proofs.TableLines.{job-line}
+use Rattle.text_plan_lines.proofs.jobs_length.Given as goal
+
+-- The line of job k.
+abbrev pub line : List ℕ → ℕ → List ℕ
+line t k = job_line (job_in (plan_in t) k)
+
+abbrev pub invariant-loop-k : goal.invariant-loop-k
+invariant-loop-k l =
+    (l.k ≤ l.jobs) × ((l.length ≡ length (joined l.k (line l.plan))) × (l.length ≤ 36 * l.k))
+
+abbrev pub decreases-loop-k : goal.decreases-loop-k
+decreases-loop-k l =
+    l.jobs - l.k

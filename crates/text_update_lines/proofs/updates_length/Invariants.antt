@@ -1,0 +1,18 @@
+use Prim.Native.Nat.{◌-◌, ◌*◌, ◌≤◌}
+use mathlib.Core.Path.{◌≡◌, sym, ap, ◌∙◌}
+use native.Mathlib.Omega.{arith}
+use borrow.Author.Rules.{rules}
+use lib.ListN.{length}
+use Rattle.spec_report.specs.Report.{joined}
+use Rattle.read_tables.specs.PlanTable.{updates_in}
+use Rattle.text_lines.proofs.JoinedLines.{joined-length-more}
+use Rattle.text_update_lines.proofs.UpdateLines.{update_lines_at, all_are, few_updates, few_moves}
+use Rattle.text_update_lines.proofs.updates_length.Given as goal
+
+abbrev pub invariant-loop-u : goal.invariant-loop-u
+invariant-loop-u l =
+    (l.u ≤ l.updates) × ((l.length ≡ length (joined l.u (update_lines_at l.plan))) × (l.length ≤ 610 * l.u))
+
+abbrev pub decreases-loop-u : goal.decreases-loop-u
+decreases-loop-u l =
+    l.updates - l.u
