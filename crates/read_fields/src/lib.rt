@@ -1,6 +1,7 @@
 // The parts of a text: the next line feed or tab, the number in a field, the numbers of a line. Each function
 // equals its definition in specs/. Assumes nothing.
 #![tactic(auto)]
+
 ghost use Rattle.std.specs.Prelude.{◌≡◌, ◌≤◌, ◌+◌, length};
 ghost use Rattle.spec_text.specs.Numbers.{number};
 ghost use Rattle.spec_text.specs.Lines.{numbers};

@@ -4,7 +4,7 @@ use native.Mathlib.Nat.{sub-zero}
 use native.Mathlib.Omega.{arith}
 use borrow.Author.Rules.{rules}
 use lib.ListN.{length, take, length-set}
-use Rattle.read_fields.proofs.NumbersRead.{ joined, joined-none, read-value, read-bad, read-on, read_all, read-over, }
+use Rattle.read_fields.proofs.NumbersRead.{joined, joined-none, read-value, read-bad, read-on, read_all, read-over}
 use Rattle.spec_text.specs.Lines.{numbers}
 use Rattle.read_fields.specs.FieldPlaces.{field_at, fields_at}
 use Rattle.read_fields.specs.declared.Field.{Field}

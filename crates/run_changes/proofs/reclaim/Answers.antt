@@ -10,6 +10,7 @@ use Rattle.step_cells.specs.CellTable.{places, dirty_at}
 use Rattle.run_changes.proofs.PutOneByOne.{replaced-written, replaced-unwritten, has-place}
 use Rattle.run_changes.proofs.Reclaiming.{Puts, puts_none, puts-more, puts-marks, puts-all}
 use Rattle.run_changes.proofs.reclaim.Goals as goal
+use Rattle.run_changes.proofs.reclaim.Goals.{then-dirty-eq2, else-dirty-eq2}
 
 pub put_copy-requires : goal.put_copy-requires
 put_copy-requires c =
@@ -41,27 +42,24 @@ overflow_add-used c =
 
 pub loop-i-preserved : goal.loop-i-preserved
 loop-i-preserved c =
-    let marked :         c.dirty.result ≡ get_or (places c.args.cells.now (dirty_at c.args.p) 16) (get_or c.args.addr c.loop-i.i 0) 0 =         c.dirty.ensures 0 ∙ ap (λ k. get_or k (get_or c.args.addr c.loop-i.i 0) 0) (puts-marks c.args.p _ _ _ c.loop-i.invariant.1.1) in
+    let marked : c.dirty.result ≡ get_or (places c.args.cells.now (dirty_at c.args.p) 16) (get_or c.args.addr c.loop-i.i 0) 0
+    = c.dirty.ensures 0
+        ∙ ap (λ k. get_or k (get_or c.args.addr c.loop-i.i 0) 0) (puts-marks c.args.p _ _ _ c.loop-i.invariant.1.1) in
     let addr : ℕ → ℕ = λ k. get_or c.args.addr k 0 in
     let old : ℕ → ℕ = λ k. get_or c.args.old k 0 in
     let marks = places c.args.cells.now (dirty_at c.args.p) 16 in
     let ns = replaced addr old marks c.loop-i.i in
-    ⊎_elim
-    (λ w.
-    let more = replaced-written addr old marks c.loop-i.i (sym (marked) ∙ w.0.taken) in
-    let free = place (record { before = c; if1 = w.0 }) in
-    let room : length ns < 8 = omega (arith, free, c.loop-i.invariant.1.0) in (
-      omega arith,
-      (
-        omega (arith, w.4, c.loop-i.invariant.1.0, ap length more ∙ length-append ns (old c.loop-i.i ∷ [])),
-        rw (more, w.3, w.2.ensures, c.loop-i.invariant.1.0)
-            (puts-more c.args.p (old c.loop-i.i) ns _ _ (omega arith) room c.loop-i.invariant.1.1),
-      ),
-    ))
-    (λ w.
-    let same = replaced-unwritten addr old marks c.loop-i.i (λ e. w.0.left (marked ∙ e)) in
-    (omega arith, (w.2 ∙ rw same c.loop-i.invariant.1.0, rw (same, w.1) c.loop-i.invariant.1.1)))
-    c.if-dirty-eq2.branch
+    let place : (c.dirty.result ≡ 2) → c.loop-i.used < 8
+    = λ t. omega (
+      arith,
+      c.loop-i.invariant.1.0,
+      c.requires.n_len_bound,
+      has-place addr old marks c.loop-i.i c.args.n c.loop-i-test.true (sym marked ∙ t),
+    ) in
+    elim c.if-dirty-eq2.branch [
+      then-dirty-eq2 w ↦ let h = w in ?
+      | else-dirty-eq2 w ↦ let h = w in ?
+    ]
 
 pub returns : goal.returns
 returns c =
