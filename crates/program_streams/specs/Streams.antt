@@ -5,4 +5,4 @@ use Rattle.program_streams.specs.declared.Moved.{Moved}
 -- A call moved at most so many bytes.
 abbrev pub AtMost : Moved → ℕ → Type 0
 AtMost (Moved.Bytes n) most = n ≤ most
-AtMost Moved.Failed most = Unit {0}
+AtMost (Moved.Failed e) most = Unit {0}
