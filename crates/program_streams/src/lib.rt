@@ -2,9 +2,10 @@
 // says what failed.
 #![tactic(auto)]
 
-ghost use Rattle.std.specs.Prelude.{◌+◌, ◌-◌, ◌≤◌, length};
+ghost use Rattle.std.specs.Prelude.{◌≡◌, ◌+◌, ◌-◌, ◌≤◌, ◌<◌, false, length, take, drop};
 ghost use Rattle.io.specs.Counts.{IsPrefixLen};
-ghost use Rattle.program_streams.specs.Streams.{AtMost};
+ghost use Rattle.std.specs.Io.KnownBytes.{Consumes, IsAtEnd};
+ghost use Rattle.program_streams.specs.Streams.{AtMost, ReadOnce};
 
 use std::io;
 use std::io::{Cursor, Read, Stderr, Write};
@@ -48,7 +49,9 @@ enum Moved {
 // Reads once, into the bytes from a place on.
 fn read_once<I: Read>(input: &mut I, bytes: &mut [u8], from: usize) -> Moved
     requires { from ≤ length bytes.old }
-    ensures { AtMost result (length bytes.old - from) }
+    ensures at_most { AtMost result (length bytes.old - from) }
+    ensures bytes { ReadOnce (I.remaining input.old) (I.remaining input.new) (drop from bytes.new) result }
+    ensures front { take from bytes.new ≡ take from bytes.old }
 {
     match input.read(&mut bytes[from..]) {
         Ok(n) => Moved::Bytes(n),
@@ -96,9 +99,13 @@ pub fn tell<E: Print>(errors: &E, name: &[u8], error: io::Error) {
 }
 
 // Reads until the bytes are full or the input ends, and answers how many were read. A read that fails is told by the
-// input's name.
+// input's name. Where the input's bytes are known, those that were read are its first, and there are fewer than there
+// is room for only where it has no more.
 pub fn read_all<R: Outputs, I: Read>(rt: &R, input: &mut I, name: &[u8], bytes: &mut [u8]) -> Input
-    ensures { IsPrefixLen result.length bytes.new }
+    ensures prefix_len { IsPrefixLen result.length bytes.new }
+    ensures bytes { result.failed ≡ false
+        → Consumes (I.remaining input.old) (I.remaining input.new) (take result.length bytes.new) }
+    ensures end { result.failed ≡ false → result.length < length bytes.new → IsAtEnd (I.remaining input.new) }
 {
     let mut done = 0;
     while done < bytes.len() {
