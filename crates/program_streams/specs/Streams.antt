@@ -1,6 +1,6 @@
 -- What one call promises. Moved is declared in src/lib.rt. Assumes nothing.
 use Rattle.std.specs.Prelude.{◌≡◌, ℕ, ◌≤◌, ◌<◌, List, length, take, Option}
-use Rattle.std.specs.Io.KnownBytes.{Consumes, Keeps, IsAtEnd}
+use Rattle.std.specs.Io.KnownBytes.{Appends, Consumes, Keeps, IsAtEnd}
 use Rattle.program_streams.specs.declared.Moved.{Moved}
 
 -- A call moved at most so many bytes.
@@ -13,3 +13,9 @@ AtMost (Moved.Failed e) most = Unit {0}
 abbrev pub ReadOnce : Option (List ℕ) → Option (List ℕ) → List ℕ → Moved → Type 0
 ReadOnce old new room (Moved.Bytes n) = Consumes old new (take n room) × (n ≡ 0 → 0 < length room → IsAtEnd new)
 ReadOnce old new room (Moved.Failed e) = Keeps old new
+
+-- A write took some bytes from their start, where the bytes that the output holds are known: those that it took stand
+-- behind them. A write that failed takes none.
+abbrev pub WriteOnce : Option (List ℕ) → Option (List ℕ) → List ℕ → Moved → Type 0
+WriteOnce old new bytes (Moved.Bytes n) = Appends old new (take n bytes)
+WriteOnce old new bytes (Moved.Failed e) = Keeps old new

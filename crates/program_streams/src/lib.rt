@@ -2,10 +2,10 @@
 // says what failed.
 #![tactic(auto)]
 
-ghost use Rattle.std.specs.Prelude.{◌≡◌, ◌+◌, ◌-◌, ◌≤◌, ◌<◌, false, length, take, drop};
+ghost use Rattle.std.specs.Prelude.{◌≡◌, ◌+◌, ◌-◌, ◌≤◌, ◌<◌, false, true, length, take, drop};
 ghost use Rattle.io.specs.Counts.{IsPrefixLen};
-ghost use Rattle.std.specs.Io.KnownBytes.{Consumes, IsAtEnd};
-ghost use Rattle.program_streams.specs.Streams.{AtMost, ReadOnce};
+ghost use Rattle.std.specs.Io.KnownBytes.{Appends, Consumes, IsAtEnd};
+ghost use Rattle.program_streams.specs.Streams.{AtMost, ReadOnce, WriteOnce};
 
 use std::io;
 use std::io::{Cursor, Read, Stderr, Write};
@@ -60,11 +60,12 @@ fn read_once<I: Read>(input: &mut I, bytes: &mut [u8], from: usize) -> Moved
 }
 
 // Writes once, the bytes from a place on.
-fn write_once<O: Print>(output: &O, bytes: &[u8], from: usize) -> Moved
+fn write_once<O: Write>(output: &mut O, bytes: &[u8], from: usize) -> Moved
     requires { from ≤ length bytes.now }
-    ensures { AtMost result (length bytes.now - from) }
+    ensures at_most { AtMost result (length bytes.now - from) }
+    ensures bytes { WriteOnce (O.contents output.old) (O.contents output.new) (drop from bytes.now) result }
 {
-    match output.write_some(&bytes[from..]) {
+    match output.write(&bytes[from..]) {
         Ok(n) => Moved::Bytes(n),
         Err(error) => Moved::Failed(error),
     }
@@ -127,23 +128,27 @@ pub fn read_all<R: Outputs, I: Read>(rt: &R, input: &mut I, name: &[u8], bytes: 
     }
 }
 
-// Writes all of the bytes. A write that fails, or takes none of them, is told by the output's name.
-fn write_all<O: Print, E: Print>(output: &O, errors: &E, name: &[u8], bytes: &[u8]) {
+// Writes all of the bytes, and answers whether it has. A write that fails, or takes none of them, is told by the
+// output's name. Where it is known what the output holds, all of the bytes then stand behind it.
+pub fn write_all<O: Write, E: Print>(output: &mut O, errors: &E, name: &[u8], bytes: &[u8]) -> bool
+    ensures { result ≡ true → Appends (O.contents output.old) (O.contents output.new) bytes.now }
+{
     let mut done = 0;
     while done < bytes.len() {
         match write_once(output, bytes, done) {
             Moved::Bytes(0) => {
                 let _ = errors.write_all(name);
                 let _ = errors.write_all(b": not all was written\n");
-                return;
+                return false;
             }
             Moved::Bytes(n) => done += n,
             Moved::Failed(error) => {
                 tell(errors, name, error);
-                return;
+                return false;
             }
         }
     }
+    true
 }
 
 // Reads standard input.
@@ -155,11 +160,11 @@ pub fn read_input<R: std::io::Input + Outputs>(rt: &R, bytes: &mut [u8]) -> Inpu
 
 // Writes to standard output.
 pub fn write_output<R: Outputs>(rt: &R, bytes: &[u8]) {
-    write_all(rt, &rt.errors(), b"standard output", bytes);
+    write_all(&mut io::writer(rt), &rt.errors(), b"standard output", bytes);
 }
 
 // Writes to standard error.
 pub fn write_message<R: Outputs>(rt: &R, bytes: &[u8]) {
     let errors = rt.errors();
-    write_all(&errors, &errors, b"standard error", bytes);
+    write_all(&mut io::writer(&errors), &errors, b"standard error", bytes);
 }
