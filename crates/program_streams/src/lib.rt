@@ -2,17 +2,20 @@
 // says what failed.
 #![tactic(auto)]
 
-ghost use Rattle.std.specs.Prelude.{◌≡◌, ◌+◌, ◌-◌, ◌≤◌, ◌<◌, false, true, length, take, drop};
+ghost use Rattle.std.specs.Prelude.{◌≡◌, ◌+◌, ◌-◌, ◌≤◌, ◌<◌, false, length, take, drop};
 ghost use Rattle.io.specs.Counts.{IsPrefixLen};
 ghost use Rattle.std.specs.Io.KnownBytes.{Appends, Consumes, IsAtEnd};
 ghost use Rattle.program_streams.specs.Streams.{AtMost, ReadOnce, WriteOnce};
 
 use std::io;
-use std::io::{Cursor, Read, Stderr, Write};
+use std::io::{Cursor, ErrorKind, Read, Stderr, Write};
 
 // How many bytes of a text are read: none that is accepted is longer than 65,536, and one byte more tells of any longer
 // one that it is too long.
 pub const TEXT: usize = 65537;
+
+// The status of a program that ends because nobody reads what it writes: the shell's for the signal SIGPIPE.
+pub const CLOSED: u8 = 141;
 
 // Room for what is said of any error.
 const REASON: usize = 256;
@@ -37,6 +40,15 @@ impl Outputs for HostRuntime {
 pub struct Input {
     pub failed: bool,
     pub length: usize,
+}
+
+// What writing came to: all of the bytes were written; nobody reads what is written any more; or a write failed, which
+// was told.
+#[derive(Clone, Copy, PartialEq, Eq)]
+pub enum Written {
+    All,
+    Closed,
+    Failed,
 }
 
 // What one call came to: it moved so many bytes, or it failed.
@@ -128,10 +140,15 @@ pub fn read_all<R: Outputs, I: Read>(rt: &R, input: &mut I, name: &[u8], bytes: 
     }
 }
 
-// Writes all of the bytes, and answers whether it has. A write that fails, or takes none of them, is told by the
-// output's name. Where it is known what the output holds, all of the bytes then stand behind it.
-pub fn write_all<O: Write, E: Print>(output: &mut O, errors: &E, name: &[u8], bytes: &[u8]) -> bool
-    ensures { result ≡ true → Appends (O.contents output.old) (O.contents output.new) bytes.now }
+// Writes all of the bytes. A write that fails, or takes none of them, is told by the output's name, but not where nobody
+// reads the output any more. Where it is known what the output holds, all of the bytes then stand behind it.
+pub fn write_all<O: Write, E: Print>(
+    output: &mut O,
+    errors: &E,
+    name: &[u8],
+    bytes: &[u8],
+) -> Written
+    ensures { result ≡ Written.All → Appends (O.contents output.old) (O.contents output.new) bytes.now }
 {
     let mut done = 0;
     while done < bytes.len() {
@@ -139,16 +156,19 @@ pub fn write_all<O: Write, E: Print>(output: &mut O, errors: &E, name: &[u8], by
             Moved::Bytes(0) => {
                 let _ = errors.write_all(name);
                 let _ = errors.write_all(b": not all was written\n");
-                return false;
+                return Written::Failed;
             }
             Moved::Bytes(n) => done += n,
             Moved::Failed(error) => {
+                if error.kind() == ErrorKind::BrokenPipe {
+                    return Written::Closed;
+                }
                 tell(errors, name, error);
-                return false;
+                return Written::Failed;
             }
         }
     }
-    true
+    Written::All
 }
 
 // Reads standard input.
@@ -159,12 +179,12 @@ pub fn read_input<R: std::io::Input + Outputs>(rt: &R, bytes: &mut [u8]) -> Inpu
 }
 
 // Writes to standard output.
-pub fn write_output<R: Outputs>(rt: &R, bytes: &[u8]) {
-    write_all(&mut io::writer(rt), &rt.errors(), b"standard output", bytes);
+pub fn write_output<R: Outputs>(rt: &R, bytes: &[u8]) -> Written {
+    write_all(&mut io::writer(rt), &rt.errors(), b"standard output", bytes)
 }
 
 // Writes to standard error.
-pub fn write_message<R: Outputs>(rt: &R, bytes: &[u8]) {
+pub fn write_message<R: Outputs>(rt: &R, bytes: &[u8]) -> Written {
     let errors = rt.errors();
-    write_all(&mut io::writer(&errors), &errors, b"standard error", bytes);
+    write_all(&mut io::writer(&errors), &errors, b"standard error", bytes)
 }
