@@ -65,8 +65,8 @@ abbrev pub numblks_at : ℕ
 numblks_at = 96
 
 -- Where job p's own 64 places begin; the shared cells stand below all of them.
-abbrev pub field_own : ℕ → ℕ
-field_own p = 128 + 64 * p
+abbrev pub own_at : ℕ → ℕ
+own_at p = 128 + 64 * p
 
 -- Where job p's marks begin.
 abbrev pub dirty_at : ℕ → ℕ

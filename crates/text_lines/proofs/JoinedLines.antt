@@ -25,6 +25,7 @@ joined-length-more i f = rw (add-one i) (length-append (joined i f) (f i))
 
 -- The first lines and the one behind them fit where all fit.
 pub part_room : (n i : ℕ) (f : ℕ → List ℕ) → i < n → length (joined i f) + length (f i) ≤ length (joined n f)
+part_room zero i f h = elim h [ ]
 part_room (suc n) i f h = go (dec_lt i n) (part_room n i f)
   where
     go : Dec (i < n) → (i < n → length (joined i f) + length (f i) ≤ length (joined n f))

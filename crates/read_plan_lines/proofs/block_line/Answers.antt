@@ -1,0 +1,35 @@
+-- `block_line` reads the words of a block into their places. Assumes nothing.
+use Prim.Native.Nat.{◌+◌, ◌-◌, ◌*◌, ◌≤◌}
+use mathlib.Core.Path.{◌≡◌, sym, ap, subst}
+use native.Mathlib.Nat.{mul-le-mul, add-mul}
+use native.Mathlib.Omega.{arith}
+use Rattle.read_fields.specs.FieldPlaces.{fields_at}
+use Rattle.spec_format.specs.declared.Kind.{Kind}
+use Rattle.spec_format.specs.declared.Sizes.{Sizes}
+use Rattle.read_tables.specs.PlanTable.{words_at, sizes_in}
+use Rattle.read_line_promises.proofs.LineKinds.{bad-item, good-item, malformed, block_read}
+use Rattle.read_plan_lines.specs.PartRead.{WordsRead}
+use borrow.Author.Rules.{rules}
+use Rattle.read_plan_lines.proofs.block_line.Goals as goal
+
+pub returns : goal.returns
+returns c =
+    let read : let a = c.args in
+    let size = (sizes_in a.plan.now).words in
+    WordsRead c.read_part.result (words_at + a.p.blocks * size) size (fields_at a.line.now a.at)
+    a.plan.now
+    c.read_part.new.table =     let a = c.args in
+    let size = c.sizes-sizes.result.words in
+    let end : words_at + a.p.blocks * size + size - (words_at + a.p.blocks * size) ≡ size = omega arith in
+    subst
+    (λ (y : Sizes).
+    WordsRead c.read_part.result (words_at + a.p.blocks * y.words) y.words
+    (fields_at a.line.now a.at)
+    a.plan.now
+    c.read_part.new.table)
+    c.sizes-sizes.ensures
+    (rw end at c.read_part.ensures) in
+    λ e.
+    let w = read in
+        block_read _ c.args.plan.now _ e _ _ (good-item Kind.Block _ _ _ w.read c.in-Read.is)
+    w.many c.requires.1.0 c.requires.1.1.0 c.requires.1.1.1 w.put

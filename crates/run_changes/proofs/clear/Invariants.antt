@@ -1,0 +1,13 @@
+use Prim.Native.Nat.{◌-◌, ◌≤◌}
+use mathlib.Core.Path.{◌≡◌}
+use native.Mathlib.Omega.{arith}
+use Rattle.run_changes.proofs.Clearing.{Clears, clear_none, clear-more, clear-all}
+use Rattle.run_changes.proofs.clear.Given as goal
+
+abbrev pub invariant-loop-b : goal.invariant-loop-b
+invariant-loop-b l =
+    (l.b ≤ 16) × Clears l.p l.b l.initial.cells l.cells
+
+abbrev pub decreases-loop-b : goal.decreases-loop-b
+decreases-loop-b l =
+    16 - l.b

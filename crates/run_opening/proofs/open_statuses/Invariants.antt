@@ -1,0 +1,22 @@
+use Prim.Native.Nat.{ℕ, ◌-◌, ◌≤◌}
+use mathlib.Core.Path.{◌≡◌, refl, ◌∙◌}
+use native.Mathlib.Omega.{arith}
+use lib.IntN.{ℤ}
+use lib.ListN.{length, length-set}
+use mir.Syntax.{w32}
+use mir.Val.{of_z, to_z}
+use mir.Facts.{to_z-of_z}
+use Rattle.run_opening.proofs.FilledList.{filled, fill, full}
+use Rattle.run_opening.proofs.open_statuses.Given as goal
+
+-- One status throughout.
+abbrev pub always : ℤ → ℕ → ℤ
+always none k = none
+
+abbrev pub invariant-loop-k : goal.invariant-loop-k
+invariant-loop-k l =
+    (l.k ≤ 17) × ((length {A = ℤ} l.stat ≡ 17) × (l.stat ≡ filled l.k (always (l.none)) l.initial.stat))
+
+abbrev pub decreases-loop-k : goal.decreases-loop-k
+decreases-loop-k l =
+    17 - l.k

@@ -1,0 +1,12 @@
+use native.Mathlib.Omega.{arith}
+use borrow.Author.Rules.{rules}
+use Rattle.text_lines.proofs.DigitsBefore.{Filling, begun, next_place, one_more, last}
+use Rattle.text_lines.proofs.fill_decimal.Given as goal
+
+abbrev pub invariant-loop-rest : goal.invariant-loop-rest
+invariant-loop-rest l =
+    Filling l.n l.end l.initial.part l.at l.rest l.part
+
+abbrev pub decreases-loop-rest : goal.decreases-loop-rest
+decreases-loop-rest l =
+    l.rest

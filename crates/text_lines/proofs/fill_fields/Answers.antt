@@ -1,0 +1,43 @@
+-- `fill_fields` writes the line feed, and the fields before it, the last first. Assumes nothing.
+use native.Mathlib.Omega.{arith}
+use Prim.Native.Nat.{◌-◌}
+use mathlib.Core.Path.{◌∙◌}
+use lib.ListN.{length, length-set}
+use Rattle.text_lines.proofs.FieldsBefore.{Filling, begun, some-field, room, places, one_more, done}
+use Rattle.text_lines.proofs.fill_fields.Goals as goal
+
+pub overflow_sub-at : goal.overflow_sub-at
+overflow_sub-at c = omega (arith, some-field c.args.numbers.now)
+
+pub bounds-part-at : goal.bounds-part-at
+bounds-part-at c = omega (arith, some-field c.args.numbers.now)
+
+pub loop-i-init : goal.loop-i-init
+loop-i-init c =
+    let a = c.args in
+    begun a.numbers.now a.part.now (omega (arith, some-field a.numbers.now))
+
+pub fill_decimal-at-requires : goal.fill_decimal-at-requires
+fill_decimal-at-requires c =
+    let b = c.args.part.now in
+    let r = room c.loop-i.invariant (omega (arith, length-set b (length b - 1) 10)) (omega arith) in
+    (omega (arith, r.0), r.1)
+
+pub overflow_sub-at-in-loop-i : goal.overflow_sub-at-in-loop-i
+overflow_sub-at-in-loop-i c =
+    let b = c.args.part.now in
+    let fits = length-set b (length b - 1) 10 in
+    let d = c.fill_decimal-at in
+    (places c.loop-i.invariant (omega (arith, fits)) (omega arith) d.result d.new.0 d.ensures.0
+    d.ensures.1).0
+
+pub loop-i-preserved : goal.loop-i-preserved
+loop-i-preserved c =
+    let b = c.args.part.now in
+    let fits = length-set b (length b - 1) 10 in
+    let d = c.fill_decimal-at in
+    one_more c.loop-i.invariant (omega (arith, fits)) (omega arith) d.result d.new.0 d.ensures.0
+    d.ensures.1
+
+pub returns-clause-part_after : goal.returns-clause-part_after
+returns-clause-part_after c = done c.args.part.now c.loop-i.invariant (omega arith)

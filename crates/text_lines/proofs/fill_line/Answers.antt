@@ -1,0 +1,26 @@
+-- `fill_line` writes the fields of the numbers, and the first field before them. Assumes nothing.
+use Prim.Native.Nat.{ℕ, suc, ◌+◌, ◌-◌, ◌≤◌}
+use mathlib.Core.Path.{◌≡◌, refl, sym, ap, ◌∙◌}
+use native.Mathlib.Omega.{arith}
+use mathlib.Core.List.{List, ◌++◌}
+use lib.ListN.{length, get_or, set, drop, length-append}
+use lib.Seq.{take-length}
+use Rattle.text_lines.proofs.Stores.{copied, copied_more, long}
+use Rattle.text_lines.proofs.FieldsBefore.{fields_of, line-parts}
+use Rattle.text_lines.proofs.fill_line.Goals as goal
+
+pub loop-i-preserved : goal.loop-i-preserved
+loop-i-preserved c =
+    let parts : let a = c.args in
+    (length c.fill_fields.new.part ≡ length a.first.now + length (fields_of a.numbers.now))
+    × (drop (length a.first.now) c.fill_fields.new.part ≡ fields_of a.numbers.now) =     let p = line-parts c.args.first.now c.args.numbers.now c.args.part.now c.fill_fields.new.part
+    c.fill_fields.result c.requires c.fill_fields.ensures.numbers_value c.fill_fields.ensures.part_after in
+    (p.0 ∙ c.requires ∙ length-append c.args.first.now (fields_of c.args.numbers.now), p.1) in
+    let first = c.args.first.now in
+    let i = c.loop-i.i in
+    let next : suc i ≡ i + 1 = omega arith in (
+      omega arith,
+      ap (λ (s : List ℕ). set s i (get_or first i 0)) c.loop-i.invariant.1
+          ∙ copied_more c.fill_fields.new.part first i (omega (arith, (parts).0)) (omega arith)
+          ∙ ap (copied c.fill_fields.new.part first) next,
+    )
