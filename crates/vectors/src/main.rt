@@ -9,14 +9,18 @@
 // that is lent, or `-` for one that is large enough. The records, of schedules alone, are lines of three numbers, a
 // kind and two more, parted by one space.
 #![tactic(auto)]
+
 ghost use Rattle.std.specs.Prelude.{◌+◌, ◌≤◌, ◌<◌, length};
 ghost use Rattle.vectors_cases.specs.CaseParts.{CasePlaced};
 ghost use Rattle.vectors.specs.LowTally.{Low};
 
+use program_streams::Outputs;
 use public_printing::OUTPUT;
 use public_reference::Answer;
 use report_ending::Ended;
 use spec_format::Entry;
+use std::fs::File;
+use std::rt::Files;
 use vectors_agreement::{Ending, Tally};
 use vectors_cases::{Next, Parts, RECORDS, Records, Room};
 
@@ -55,7 +59,8 @@ fn run_schedule(
 }
 
 // Runs the plan's text of a case with its records, or writes both, with n bytes lent, and compares.
-fn try_schedule(
+fn try_schedule<R: Outputs>(
+    rt: &R,
     pack_name: &[u8],
     case_name: &[u8],
     way: &[u8],
@@ -80,7 +85,7 @@ fn try_schedule(
     vectors_cases::fill(room, vectors_agreement::MARKER);
     let ended = run_schedule(text, entries, count, room, n, writes);
     let agrees = vectors_agreement::compare_ended(
-        pack_name, case_name, way, output, end, ended, room,
+        rt, pack_name, case_name, way, output, end, ended, room,
     );
     if writes {
         return CaseResult::Written(agrees);
@@ -90,7 +95,8 @@ fn try_schedule(
 
 // Runs the text of a case, or writes it, with n bytes lent, and once more as the program does where all of the room is
 // lent.
-fn try_text(
+fn try_text<R: Outputs>(
+    rt: &R,
     pack_name: &[u8],
     case_name: &[u8],
     way: &[u8],
@@ -104,15 +110,16 @@ fn try_text(
     requires { n ≤ 80000 }
 {
     let agrees = vectors_agreement::try_case(
-        pack_name, case_name, way, text, output, end, room, n, writes,
+        rt, pack_name, case_name, way, text, output, end, room, n, writes,
     );
     let prints = n < OUTPUT
-        || vectors_agreement::try_print(pack_name, case_name, text, output, end, room, writes);
+        || vectors_agreement::try_print(rt, pack_name, case_name, text, output, end, room, writes);
     agrees && prints
 }
 
 // Tries one case of a pack.
-fn run_case(
+fn run_case<R: Outputs>(
+    rt: &R,
     pack_name: &[u8],
     header: &[u8],
     text: &[u8],
@@ -131,14 +138,16 @@ fn run_case(
     if check::same(kind, b"write") {
         let lines = vectors_cases::count(text, b'\n');
         let end = vectors_agreement::written_ending(output, lines);
-        let agrees = try_text(pack_name, case_name, kind, text, output, end, room, n, true);
+        let agrees = try_text(
+            rt, pack_name, case_name, kind, text, output, end, room, n, true,
+        );
         return CaseResult::Written(agrees);
     }
     if check::same(kind, b"write_schedule") {
         let entries = vectors_cases::read_records(records);
         let end = vectors_agreement::written_ending(output, entries.count);
         return try_schedule(
-            pack_name, case_name, kind, text, entries, output, end, room, n, true,
+            rt, pack_name, case_name, kind, text, entries, output, end, room, n, true,
         );
     }
     let Ending::Read(end) = vectors_agreement::read_ending(vectors_cases::last_line(output)) else {
@@ -147,15 +156,15 @@ fn run_case(
     if check::same(kind, b"schedule") {
         let entries = vectors_cases::read_records(records);
         return try_schedule(
-            pack_name, case_name, kind, text, entries, output, end, room, n, false,
+            rt, pack_name, case_name, kind, text, entries, output, end, room, n, false,
         );
     }
     if !check::same(kind, b"run") {
         return CaseResult::Malformed;
     }
-    let checked = vectors_agreement::check_case(pack_name, case_name, text, end);
+    let checked = vectors_agreement::check_case(rt, pack_name, case_name, text, end);
     let ran = try_text(
-        pack_name, case_name, kind, text, output, end, room, n, false,
+        rt, pack_name, case_name, kind, text, output, end, room, n, false,
     );
     CaseResult::Ran(Agreed {
         check: checked,
@@ -164,7 +173,8 @@ fn run_case(
 }
 
 // Tries the case whose parts stand at a place of a pack.
-fn run_at(
+fn run_at<R: Outputs>(
+    rt: &R,
     pack_name: &[u8],
     pack: &[u8],
     at: usize,
@@ -179,6 +189,7 @@ fn run_at(
     let records = parts.records;
     let output = parts.output;
     run_case(
+        rt,
         pack_name,
         &pack[at..header],
         &pack[start..text],
@@ -207,7 +218,7 @@ fn counted(tally: Tally, agrees: bool) -> Tally
 }
 
 // Tries the cases of a pack up to its end, or up to one that is malformed.
-fn run_pack(name: &[u8], pack: &[u8], room: &mut [u8; OUTPUT]) {
+fn run_pack<R: Outputs>(rt: &R, name: &[u8], pack: &[u8], room: &mut [u8; OUTPUT]) {
     let none = Tally { agree: 0, tried: 0 };
     let mut checks = none;
     let mut runs = none;
@@ -216,10 +227,10 @@ fn run_pack(name: &[u8], pack: &[u8], room: &mut [u8; OUTPUT]) {
     let mut at = 0;
     while at < pack.len() {
         let Next::Case(parts) = vectors_cases::next_case(pack, at) else {
-            vectors_agreement::print_malformed(name);
+            vectors_agreement::print_malformed(rt, name);
             return;
         };
-        match run_at(name, pack, at, parts, room) {
+        match run_at(rt, name, pack, at, parts, room) {
             CaseResult::Ran(agreed) => {
                 checks = counted(checks, agreed.check);
                 runs = counted(runs, agreed.run);
@@ -231,48 +242,49 @@ fn run_pack(name: &[u8], pack: &[u8], room: &mut [u8; OUTPUT]) {
                 writings = counted(writings, agrees);
             }
             CaseResult::Malformed => {
-                vectors_agreement::print_malformed(name);
+                vectors_agreement::print_malformed(rt, name);
                 return;
             }
         }
         at = parts.output;
     }
-    vectors_agreement::print_total(name, checks, runs, schedules, writings);
+    vectors_agreement::print_total(rt, name, checks, runs, schedules, writings);
 }
 
 // Reads a pack into the bytes lent for it, and runs it. One that fills them all may go on past them: it is not run.
-fn run_file(name: &[u8], bytes: &mut [u8], room: &mut [u8; OUTPUT]) {
-    let descriptor = os::open_read(name);
-    if descriptor < 0 {
-        os::fail(name);
-        return;
-    }
-    let read = program_streams::read_all(descriptor, name, bytes);
-    libc::close(descriptor);
+fn run_file<R: Files + Outputs>(rt: &R, name: &str, bytes: &mut [u8], room: &mut [u8; OUTPUT]) {
+    let mut file = match File::open(rt, name) {
+        Ok(file) => file,
+        Err(error) => {
+            program_streams::tell(&rt.errors(), name.as_bytes(), error);
+            return;
+        }
+    };
+    let read = program_streams::read_all(rt, &mut file, name.as_bytes(), bytes);
     if read.failed {
         return;
     }
     let length = read.length;
     if length == bytes.len() {
-        vectors_agreement::print_malformed(name);
+        vectors_agreement::print_malformed(rt, name.as_bytes());
         return;
     }
-    run_pack(name, &bytes[..length], room);
+    run_pack(rt, name.as_bytes(), &bytes[..length], room);
 }
 
 // Runs each pack. It is lent the room as arrays, whose lengths their types give: to count the zeros of so many would
 // take the prover too much room.
-fn run_files(bytes: &mut [u8; ROOM], room: &mut [u8; OUTPUT]) {
-    run_file(b"04-counters-that-stop.pack", bytes, room);
-    run_file(b"wrong.pack", bytes, room);
+fn run_files<R: Files + Outputs>(rt: &R, bytes: &mut [u8; ROOM], room: &mut [u8; OUTPUT]) {
+    run_file(rt, "04-counters-that-stop.pack", bytes, room);
+    run_file(rt, "wrong.pack", bytes, room);
 }
 
 // Runs the packs. The cases of the last one are wrong on purpose: one in its answer, one in a line of its report, one
 // in its run of steps, which its report takes one step short, one in its update's number, which its report lets pass,
 // and one in its sum, which its report has start again at 0; of those that are written, one has a run of one with its
 // count, one leaves runs apart, and one is the text of a schedule that is refused.
-fn main() {
+fn main(rt: HostRuntime) {
     let mut bytes = [0u8; ROOM];
     let mut room = [0u8; OUTPUT];
-    run_files(&mut bytes, &mut room);
+    run_files(&rt, &mut bytes, &mut room);
 }

@@ -1,9 +1,11 @@
 // The texts of cases are checked, run and written, and what comes of a case is compared with what it says: a line goes
 // to standard output where the two differ, and for each pack how many cases agree.
 #![tactic(auto)]
+
 ghost use Rattle.std.specs.Prelude.{◌≤◌, length};
 ghost use Rattle.io.specs.Counts.{IsPrefixLen};
 
+use program_streams::Outputs;
 use public_printing::{OUTPUT, Printed};
 use public_reference::Answer;
 use report_ending::Ended;
@@ -79,86 +81,93 @@ fn wanted(text: &[u8], end: Answer) -> Answer {
 }
 
 // Writes bytes to standard output.
-fn print(bytes: &[u8]) {
-    program_streams::write_output(bytes);
+fn print<R: Outputs>(rt: &R, bytes: &[u8]) {
+    program_streams::write_output(rt, bytes);
 }
 
 // Writes a number to standard output.
-fn print_number(number: usize) {
+fn print_number<R: Outputs>(rt: &R, number: usize) {
     let mut digits = [0u8; 20];
     let length = io::decimal(number as u64, &mut digits);
-    print(&digits[..length]);
+    print(rt, &digits[..length]);
 }
 
 // Writes an answer, its number and its line.
-fn print_answer(answer: Answer) {
-    print_number(answer.number);
-    print(b" ");
-    print_number(answer.line);
+fn print_answer<R: Outputs>(rt: &R, answer: Answer) {
+    print_number(rt, answer.number);
+    print(rt, b" ");
+    print_number(rt, answer.line);
 }
 
 // Writes bytes, and bytes behind them.
-fn print_both(first: &[u8], second: &[u8]) {
-    print(first);
-    print(second);
+fn print_both<R: Outputs>(rt: &R, first: &[u8], second: &[u8]) {
+    print(rt, first);
+    print(rt, second);
 }
 
 // Writes the names of a pack and of a case, and what was done with it.
-fn print_names(pack_name: &[u8], case_name: &[u8], way: &[u8]) {
-    print_both(pack_name, b": ");
-    print_both(case_name, b": ");
-    print_both(way, b": ");
+fn print_names<R: Outputs>(rt: &R, pack_name: &[u8], case_name: &[u8], way: &[u8]) {
+    print_both(rt, pack_name, b": ");
+    print_both(rt, case_name, b": ");
+    print_both(rt, way, b": ");
 }
 
 // Writes the answer to a case, and the one that is wanted.
-fn print_difference(got: Answer, want: Answer) {
-    print(b"got ");
-    print_answer(got);
-    print(b", wanted ");
-    print_answer(want);
-    print(b"\n");
+fn print_difference<R: Outputs>(rt: &R, got: Answer, want: Answer) {
+    print(rt, b"got ");
+    print_answer(rt, got);
+    print(rt, b", wanted ");
+    print_answer(rt, want);
+    print(rt, b"\n");
 }
 
 // Writes the first line of what was written that is not the one that is wanted, and the one that is.
-fn print_lines(written: &[u8], output: &[u8]) {
+fn print_lines<R: Outputs>(rt: &R, written: &[u8], output: &[u8]) {
     let before = vectors_cases::same_lines(written, output);
-    print_both(b"got ", vectors_cases::word(written, b'\n', before));
-    print_both(b", wanted ", vectors_cases::word(output, b'\n', before));
-    print(b"\n");
+    print_both(rt, b"got ", vectors_cases::word(written, b'\n', before));
+    print_both(rt, b", wanted ", vectors_cases::word(output, b'\n', before));
+    print(rt, b"\n");
 }
 
 // Writes a number, and bytes behind it.
-fn print_counted(number: usize, bytes: &[u8]) {
-    print_number(number);
-    print(bytes);
+fn print_counted<R: Outputs>(rt: &R, number: usize, bytes: &[u8]) {
+    print_number(rt, number);
+    print(rt, bytes);
 }
 
 // Writes that a pack cannot be read.
-pub fn print_malformed(name: &[u8]) {
-    print_both(name, b": malformed\n");
+pub fn print_malformed<R: Outputs>(rt: &R, name: &[u8]) {
+    print_both(rt, name, b": malformed\n");
 }
 
 // Writes how many cases agree of those that were tried, and bytes behind it.
-fn print_tally(tally: Tally, bytes: &[u8]) {
-    print_counted(tally.agree, b" of ");
-    print_counted(tally.tried, bytes);
+fn print_tally<R: Outputs>(rt: &R, tally: Tally, bytes: &[u8]) {
+    print_counted(rt, tally.agree, b" of ");
+    print_counted(rt, tally.tried, bytes);
 }
 
 // Writes how many texts of a pack agree in their check and in their run; and the same of its schedules and of what is
 // written, where it has any.
-pub fn print_total(name: &[u8], checks: Tally, runs: Tally, schedules: Tally, writings: Tally) {
-    print_both(name, b": ");
-    print_tally(checks, b" checks agree, ");
-    print_tally(runs, b" runs agree");
+pub fn print_total<R: Outputs>(
+    rt: &R,
+    name: &[u8],
+    checks: Tally,
+    runs: Tally,
+    schedules: Tally,
+    writings: Tally,
+) {
+    print_both(rt, name, b": ");
+    print_tally(rt, checks, b" checks agree, ");
+    print_tally(rt, runs, b" runs agree");
     if schedules.tried > 0 {
-        print(b", ");
-        print_tally(schedules, b" schedules agree");
+        print(rt, b", ");
+        print_tally(rt, schedules, b" schedules agree");
     }
     if writings.tried > 0 {
-        print(b", ");
-        print_tally(writings, b" writings agree");
+        print(rt, b", ");
+        print_tally(rt, writings, b" writings agree");
     }
-    print(b"\n");
+    print(rt, b"\n");
 }
 
 // Whether two answers are the same.
@@ -170,14 +179,20 @@ fn same_answer(got: Answer, want: Answer) -> bool {
 }
 
 // Checks the text of a case, and writes a line where the answer is not what is wanted.
-pub fn check_case(pack_name: &[u8], case_name: &[u8], text: &[u8], end: Answer) -> bool {
+pub fn check_case<R: Outputs>(
+    rt: &R,
+    pack_name: &[u8],
+    case_name: &[u8],
+    text: &[u8],
+    end: Answer,
+) -> bool {
     let got = public_reference::answer_of(public_reference::check(text, Form::Schedule));
     let want = wanted(text, end);
     if same_answer(got, want) {
         return true;
     }
-    print_names(pack_name, case_name, b"check");
-    print_difference(got, want);
+    print_names(rt, pack_name, case_name, b"check");
+    print_difference(rt, got, want);
     false
 }
 
@@ -189,7 +204,8 @@ fn kept(bytes: &[u8], from: usize) -> bool
 }
 
 // Whether the bytes that were written are those that are wanted of a case's output. Writes a line where they are not.
-fn compare_bytes(
+fn compare_bytes<R: Outputs>(
+    rt: &R,
     pack_name: &[u8],
     case_name: &[u8],
     way: &[u8],
@@ -200,14 +216,15 @@ fn compare_bytes(
     if check::same(written, wanted) {
         return true;
     }
-    print_names(pack_name, case_name, way);
-    print_lines(written, output);
+    print_names(rt, pack_name, case_name, way);
+    print_lines(rt, written, output);
     false
 }
 
 // Whether a call ended as is wanted, and left the bytes past what it wrote as they were. Writes a line where not, which
 // says by `way` what was done with the case.
-fn compare_end(
+fn compare_end<R: Outputs>(
+    rt: &R,
     pack_name: &[u8],
     case_name: &[u8],
     way: &[u8],
@@ -216,13 +233,13 @@ fn compare_end(
     is_kept: bool,
 ) -> bool {
     if !same_answer(got, end) {
-        print_names(pack_name, case_name, way);
-        print_difference(got, end);
+        print_names(rt, pack_name, case_name, way);
+        print_difference(rt, got, end);
         return false;
     }
     if !is_kept {
-        print_names(pack_name, case_name, way);
-        print(b"bytes past the end were written\n");
+        print_names(rt, pack_name, case_name, way);
+        print(rt, b"bytes past the end were written\n");
         return false;
     }
     true
@@ -230,7 +247,8 @@ fn compare_end(
 
 // Whether a call ended as is wanted, wrote the bytes that are wanted of a case's output, and nothing past them. Writes
 // a line where not.
-fn compare_written(
+fn compare_written<R: Outputs>(
+    rt: &R,
     pack_name: &[u8],
     case_name: &[u8],
     way: &[u8],
@@ -244,14 +262,23 @@ fn compare_written(
     requires { written ≤ length room.now }
 {
     let is_kept = kept(room, written);
-    if !compare_end(pack_name, case_name, way, got, end, is_kept) {
+    if !compare_end(rt, pack_name, case_name, way, got, end, is_kept) {
         return false;
     }
-    compare_bytes(pack_name, case_name, way, &room[..written], wanted, output)
+    compare_bytes(
+        rt,
+        pack_name,
+        case_name,
+        way,
+        &room[..written],
+        wanted,
+        output,
+    )
 }
 
 // Whether a call ended with the output that is wanted, and wrote nothing past it. Writes a line where not.
-pub fn compare_ended(
+pub fn compare_ended<R: Outputs>(
+    rt: &R,
     pack_name: &[u8],
     case_name: &[u8],
     way: &[u8],
@@ -268,6 +295,7 @@ pub fn compare_ended(
     };
     let wanted = vectors_cases::wanted_bytes(output);
     compare_written(
+        rt,
         pack_name,
         case_name,
         way,
@@ -281,7 +309,8 @@ pub fn compare_ended(
 }
 
 // Whether what is to be printed is the output that is wanted, and nothing is written past it. Writes a line where not.
-fn compare_print(
+fn compare_print<R: Outputs>(
+    rt: &R,
     pack_name: &[u8],
     case_name: &[u8],
     output: &[u8],
@@ -296,6 +325,7 @@ fn compare_print(
         line: printed.line as usize,
     };
     compare_written(
+        rt,
         pack_name,
         case_name,
         b"print",
@@ -319,7 +349,8 @@ fn print_text(text: &[u8], room: &mut [u8; OUTPUT], writes: bool) -> Printed
 }
 
 // Runs the text of a case as the program does, or writes it so, and compares what is to be printed.
-pub fn try_print(
+pub fn try_print<R: Outputs>(
+    rt: &R,
     pack_name: &[u8],
     case_name: &[u8],
     text: &[u8],
@@ -330,7 +361,7 @@ pub fn try_print(
 ) -> bool {
     vectors_cases::fill(room, MARKER);
     let printed = print_text(text, room, writes);
-    compare_print(pack_name, case_name, output, end, printed, room)
+    compare_print(rt, pack_name, case_name, output, end, printed, room)
 }
 
 // Runs a text, or writes it, with n bytes lent.
@@ -346,7 +377,8 @@ fn run_or_write(text: &[u8], room: &mut [u8], n: usize, writes: bool) -> Ended
 }
 
 // Runs the text of a case, or writes it, with n bytes lent, and compares.
-pub fn try_case(
+pub fn try_case<R: Outputs>(
+    rt: &R,
     pack_name: &[u8],
     case_name: &[u8],
     way: &[u8],
@@ -361,5 +393,5 @@ pub fn try_case(
 {
     vectors_cases::fill(room, MARKER);
     let ended = run_or_write(text, room, n, writes);
-    compare_ended(pack_name, case_name, way, output, end, ended, room)
+    compare_ended(rt, pack_name, case_name, way, output, end, ended, room)
 }

@@ -1,5 +1,6 @@
 // The cases of a pack, taken apart: where their parts stand, what their first lines say, and their records.
 #![tactic(auto)]
+
 ghost use Rattle.std.specs.Prelude.{◌≤◌, ◌<◌, length};
 ghost use Rattle.vectors_cases.specs.CaseParts.{Within};
 

@@ -1,5 +1,6 @@
 // A schedule of records that stands in an array: for callers that have no slice of records to lend.
 #![tactic(auto)]
+
 ghost use Rattle.std.specs.Prelude.{◌≡◌, ◌≤◌, take};
 ghost use Rattle.spec_report.specs.Outcomes.{left};
 ghost use Rattle.report_ending.specs.Finishing.{ended_of};

@@ -1,2 +1,0 @@
--- The law that the proofs of this crate and of the runner cite.
-pub mod LentPart
