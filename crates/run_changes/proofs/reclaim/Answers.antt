@@ -57,8 +57,25 @@ loop-i-preserved c =
       has-place addr old marks c.loop-i.i c.args.n c.loop-i-test.true (sym marked ∙ t),
     ) in
     elim c.if-dirty-eq2.branch [
-      then-dirty-eq2 w ↦ let h = w in ?
-      | else-dirty-eq2 w ↦ let h = w in ?
+      then-dirty-eq2 w ↦
+          let more = replaced-written addr old marks c.loop-i.i (sym marked ∙ w.if-dirty-eq2.true) in
+          let free = place w.if-dirty-eq2.true in
+          let room : length ns < 8 = omega (arith, free, c.loop-i.invariant.1.0) in (
+            omega arith,
+            (
+              omega (
+                arith,
+                w.used-is,
+                c.loop-i.invariant.1.0,
+                ap length more ∙ length-append ns (old c.loop-i.i ∷ []),
+              ),
+              rw (more, w.cells-is, w.put_copy.ensures, c.loop-i.invariant.1.0)
+                  (puts-more c.args.p (old c.loop-i.i) ns _ _ (omega arith) room c.loop-i.invariant.1.1),
+            ),
+          )
+      | else-dirty-eq2 w ↦
+          let same = replaced-unwritten addr old marks c.loop-i.i (λ e. w.if-dirty-eq2.false (marked ∙ e)) in
+          (omega arith, (w.used-is ∙ rw same c.loop-i.invariant.1.0, rw (same, w.cells-is) c.loop-i.invariant.1.1))
     ]
 
 pub returns : goal.returns
