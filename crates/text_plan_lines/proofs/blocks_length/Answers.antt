@@ -14,7 +14,7 @@ use Rattle.text_plan_lines.proofs.blocks_length.Goals as goal
 
 pub loop-b-preserved : goal.loop-b-preserved
 loop-b-preserved c =
-    let measured :     c.part_length-length.result ≡ length (block_line (plan_in c.args.plan.now) c.loop-b.b) =             let is = block-line c.args.plan.now c.requires c.sizes-sizes.result c.sizes-sizes.ensures c.loop-b.b (omega arith)
+    let measured : c.part_length-length.result ≡ length (block_line (plan_in c.args.plan.now) c.loop-b.b) = let is = block-line c.args.plan.now c.requires c.sizes-sizes.result c.sizes-sizes.ensures c.loop-b.b (omega arith)
     in
     omega (arith, c.part_length-length.ensures.value, ap length is) in
     let more = joined-length-more c.loop-b.b (block_line (plan_in c.args.plan.now)) in

@@ -16,8 +16,8 @@ use Rattle.text_plan_lines.proofs.jobs_length.Invariants.{line}
 
 pub loop-k-preserved : goal.loop-k-preserved
 loop-k-preserved c =
-    let measured :     (c.line_length-length.result ≡ length (line c.args.plan.now c.loop-k.k))
-    × (c.line_length-length.result ≤ 36) =         let ns = c.job_numbers-numbers.result in
+    let measured : (c.line_length-length.result ≡ length (line c.args.plan.now c.loop-k.k))
+    × (c.line_length-length.result ≤ 36) = let ns = c.job_numbers-numbers.result in
     let few : c.loop-k.k < (sizes_in c.args.plan.now).jobs = omega (arith, c.jobs-jobs.ensures) in
     let is = job-line c.args.plan.now c.loop-k.k few ns c.job_numbers-numbers.ensures in (
       omega (arith, c.line_length-length.ensures.value, ap length is),

@@ -15,8 +15,8 @@ use Rattle.text_plan_lines.proofs.put_blocks.Given as goal
 
 abbrev pub invariant-loop-b : goal.invariant-loop-b
 invariant-loop-b l =
-    (b ≤ l.blocks) × Fills (joined b (block_line (plan_in l.plan))) l.at l.initial.buffer l.b l.next
+    (l.b ≤ l.blocks) × Fills (joined l.b (block_line (plan_in l.plan))) l.at l.initial.buffer l.next l.buffer
 
 abbrev pub decreases-loop-b : goal.decreases-loop-b
 decreases-loop-b l =
-    l.blocks - b
+    l.blocks - l.b

@@ -20,8 +20,8 @@ line t k = job_line (job_in (plan_in t) k)
 
 abbrev pub invariant-loop-k : goal.invariant-loop-k
 invariant-loop-k l =
-    (k ≤ l.jobs) × Fills (joined k (line l.plan)) l.at l.initial.buffer l.k l.next
+    (l.k ≤ l.jobs) × Fills (joined l.k (line l.plan)) l.at l.initial.buffer l.next l.buffer
 
 abbrev pub decreases-loop-k : goal.decreases-loop-k
 decreases-loop-k l =
-    l.jobs - k
+    l.jobs - l.k

@@ -13,9 +13,7 @@ use Rattle.text_plan_lines.proofs.put_part.Goals as goal
 
 pub put_line-requires-clause-numbers_in_bounds : goal.put_line-requires-clause-numbers_in_bounds
 put_line-requires-clause-numbers_in_bounds c =
-    let many = length-tabulate c.args.n (λ i. get_or c.args.table.now (c.args.from + i) 0) in
-    rw (part-is c.args.table.now c.args.from c.args.n c.requires.first_len_bound.1.1)
-    ((omega (arith, c.requires.first_len_bound.0), omega (arith, many, c.requires.first_len_bound.1.0)), c.requires.n_in_bounds)
+    rw (part-is c.args.table.now c.args.from c.args.n c.requires.first_len_bound.1.1) c.requires.n_in_bounds
 
 pub returns : goal.returns
 returns c =

@@ -15,9 +15,9 @@ use Rattle.text_update_lines.proofs.put_update.Goals as goal
 
 pub put_move-next-requires : goal.put_move-next-requires
 put_move-next-requires c =
-    let written :     Fills (update_line c.args.u) c.args.at c.args.buffer.now c.put_line-next.result c.put_line-next.new.buffer = renamed _ (ap update_line c.number_of.ensures) c.put_line-next.ensures in
-    let room :     c.put_line-next.result + length (joined (count_at c.args.plan.now c.args.u) (move_line_at c.args.plan.now c.args.u))
-    ≤ length c.put_line-next.new.buffer =     let line = written in
+    let written : Fills (update_line c.args.u) c.args.at c.args.buffer.now c.put_line-next.result c.put_line-next.new.buffer = renamed _ (ap update_line c.number_of.ensures) c.put_line-next.ensures in
+    let room : c.put_line-next.result + length (joined (count_at c.args.plan.now c.args.u) (move_line_at c.args.plan.now c.args.u))
+    ≤ length c.put_line-next.new.buffer = let line = written in
     omega (
       arith,
       c.requires.u_in_bounds,
@@ -40,6 +40,6 @@ loop-i-preserved c =
 
 pub returns : goal.returns
 returns c =
-    let written :     Fills (update_line c.args.u) c.args.at c.args.buffer.now c.put_line-next.result c.put_line-next.new.buffer = renamed _ (ap update_line c.number_of.ensures) c.put_line-next.ensures in
+    let written : Fills (update_line c.args.u) c.args.at c.args.buffer.now c.put_line-next.result c.put_line-next.new.buffer = renamed _ (ap update_line c.number_of.ensures) c.put_line-next.ensures in
     let all : c.loop-i.i ≡ count_at c.args.plan.now c.args.u = omega arith in
     renamed _ (sym (update-is c.args.plan.now c.args.u)) (then (written) (rw all at c.loop-i.invariant.1))
