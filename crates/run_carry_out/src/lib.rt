@@ -1,5 +1,6 @@
 // What an item changes, carried out in the tables that are lent.
 #![tactic(auto)]
+
 ghost use Rattle.std.specs.Prelude.{◌≡◌};
 ghost use Rattle.step_cells.specs.Tables.{lent, Whole};
 ghost use Rattle.step_cells.specs.Effects.{Carried};

@@ -1,5 +1,6 @@
 // The step list: one item of a job, by its place.
 #![tactic(auto)]
+
 ghost use Rattle.std.specs.Prelude.{List, ℕ};
 ghost use Rattle.step_cells.specs.Tables.{lent};
 ghost use Rattle.step_cells.specs.Effects.{Does, ChangeInside, Room};
