@@ -2,7 +2,6 @@
 use Prim.Native.Nat.{◌+◌, ◌*◌, ◌≤◌}
 use mathlib.Core.Path.{ap}
 use native.Mathlib.Omega.{arith}
-use borrow.Author.Rules.{rules}
 use Rattle.spec_text.specs.Bytes.{bytes}
 use Rattle.spec_text.specs.WrittenLines.{line_of}
 use Rattle.report_bytes.proofs.Writes.{widen, renamed}

@@ -1,18 +1,11 @@
 -- `put_blocks` writes a line for each block, with the words that the bank leads to. Assumes nothing.
-use Prim.Native.Nat.{ℕ, ◌-◌, ◌*◌, ◌≤◌}
-use mathlib.Core.Path.{◌≡◌, ap}
-use mathlib.Core.List.{List}
+use mathlib.Core.Path.{ap}
 use native.Mathlib.Omega.{arith}
-use lib.ListN.{get_or}
 use Rattle.spec_text.specs.Bytes.{bytes}
-use Rattle.spec_format.specs.declared.Sizes.{Sizes}
 use Rattle.spec_machine.specs.Machine.{block_in}
 use Rattle.spec_text.specs.WrittenLines.{line_of}
-use Rattle.spec_report.specs.Report.{joined}
 use Rattle.step_cells.specs.CellTable.{places, bank_at}
-use Rattle.report_bytes.specs.Writes.{Writes}
-use Rattle.report_lines.specs.ReportLines.{blocks_bytes}
-use Rattle.report_bytes.proofs.Writes.{nothing, once_more, widen, renamed, keeps}
+use Rattle.report_bytes.proofs.Writes.{nothing, once_more, renamed}
 use Rattle.report_lines.proofs.put_blocks.Goals as goal
 use Rattle.report_lines.proofs.put_blocks.Invariants.{one}
 

@@ -1,7 +1,5 @@
 use Prim.Native.Nat.{ℕ, ◌-◌, ◌*◌, ◌≤◌}
-use mathlib.Core.Path.{◌≡◌, ap}
 use mathlib.Core.List.{List}
-use native.Mathlib.Omega.{arith}
 use lib.ListN.{get_or}
 use Rattle.spec_text.specs.Bytes.{bytes}
 use Rattle.spec_format.specs.declared.Sizes.{Sizes}
@@ -10,8 +8,6 @@ use Rattle.spec_text.specs.WrittenLines.{line_of}
 use Rattle.spec_report.specs.Report.{joined}
 use Rattle.step_cells.specs.CellTable.{places, bank_at}
 use Rattle.report_bytes.specs.Writes.{Writes}
-use Rattle.report_lines.specs.ReportLines.{blocks_bytes}
-use Rattle.report_bytes.proofs.Writes.{nothing, once_more, widen, renamed, keeps}
 use Rattle.report_lines.proofs.put_blocks.Given as goal
 
 -- The line of a block.

@@ -1,15 +1,10 @@
 use Prim.Native.Nat.{ℕ, ◌-◌, ◌*◌, ◌≤◌}
-use mathlib.Core.Path.{◌≡◌, refl, sym, ◌∙◌}
-use mathlib.Core.List.{List, [], append-nil}
-use native.Mathlib.Omega.{arith}
-use lib.ListN.{get_or, take}
+use mathlib.Core.List.{List, []}
+use lib.ListN.{get_or}
 use Rattle.spec_text.specs.Bytes.{bytes}
 use Rattle.spec_text.specs.WrittenLines.{line_of}
 use Rattle.spec_report.specs.Report.{joined}
 use Rattle.report_bytes.specs.Writes.{Writes}
-use Rattle.report_lines.specs.ReportLines.{row_lines}
-use Rattle.report_bytes.proofs.Writes.{nothing, once_more, renamed, keeps}
-use Rattle.report_bytes.proofs.LoopParts.{joined_of}
 use Rattle.report_lines.proofs.put_commits.Given as goal
 
 -- The line of the row at a place.

@@ -1,8 +1,6 @@
 -- `put_job_status` writes −1 with its sign, and any other status as a number. Assumes nothing.
-use native.Mathlib.Omega.{arith}
-use borrow.Author.Rules.{rules}
-use Rattle.report_bytes.proofs.Writes.{then, widen, renamed}
-use Rattle.report_lines.proofs.PrintedStatus.{is-minus-one, is_number}
+use Rattle.report_bytes.proofs.Writes.{then, renamed}
+use Rattle.report_lines.proofs.PrintedStatus.{is-minus-one}
 use Rattle.report_lines.proofs.put_job_status.Goals as goal
 
 pub returns-then-status-eqminus1 : goal.returns-then-status-eqminus1

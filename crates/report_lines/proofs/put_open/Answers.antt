@@ -1,8 +1,6 @@
 -- `put_open` writes nothing for a job that is not active, and else its fields one behind the other. Assumes nothing.
 use mathlib.Core.Path.{ap}
 use native.Mathlib.Omega.{arith}
-use borrow.Author.Rules.{rules}
-use borrow.Author.Tests.{not-true, not-false}
 use mir.Syntax.{w32}
 use mir.ValLaws.{to_z-of_z}
 use Rattle.spec_report.specs.Report.{status_bytes}

@@ -1,22 +1,18 @@
 -- `put_opens` writes a line for each active job. Assumes nothing.
-use Prim.Native.Nat.{ℕ, ◌-◌, ◌*◌, ◌≤◌}
+use Prim.Native.Nat.{ℕ}
 use mathlib.Core.Path.{◌≡◌, ap, ◌∙◌}
 use mathlib.Core.Bool.{cond}
 use mathlib.Core.List.{List, []}
 use native.Mathlib.Omega.{arith}
 use borrow.Author.Rules.{rules}
-use lib.Dec.{eqb}
 use lib.IntN.{ℤ, pos}
 use lib.ListN.{get_or}
 use mir.Syntax.{w32}
 use mir.Val.{of_z, to_z}
 use mir.ValLaws.{to_z-of_z}
-use Rattle.read_tables.specs.PlanTable.{sizes_in}
-use Rattle.spec_report.specs.Report.{joined}
 use Rattle.step_cells.specs.CellTable.{places, active_at}
-use Rattle.report_bytes.specs.Writes.{Writes}
 use Rattle.report_lines.specs.ReportLines.{open_bytes}
-use Rattle.report_bytes.proofs.Writes.{nothing, once_more, widen, renamed, keeps}
+use Rattle.report_bytes.proofs.Writes.{nothing, once_more, renamed}
 use Rattle.report_lines.proofs.put_opens.Goals as goal
 use Rattle.report_lines.proofs.put_opens.Invariants.{one}
 

@@ -1,20 +1,13 @@
 use Prim.Native.Nat.{ℕ, ◌-◌, ◌*◌, ◌≤◌}
-use mathlib.Core.Path.{◌≡◌, ap, ◌∙◌}
 use mathlib.Core.Bool.{cond}
 use mathlib.Core.List.{List, []}
-use native.Mathlib.Omega.{arith}
 use lib.Dec.{eqb}
 use lib.IntN.{ℤ, pos}
 use lib.ListN.{get_or}
-use mir.Syntax.{w32}
-use mir.Val.{of_z, to_z}
-use mir.ValLaws.{to_z-of_z}
-use Rattle.read_tables.specs.PlanTable.{sizes_in}
 use Rattle.spec_report.specs.Report.{joined}
 use Rattle.step_cells.specs.CellTable.{places, active_at}
 use Rattle.report_bytes.specs.Writes.{Writes}
 use Rattle.report_lines.specs.ReportLines.{open_bytes}
-use Rattle.report_bytes.proofs.Writes.{nothing, once_more, widen, renamed, keeps}
 use Rattle.report_lines.proofs.put_opens.Given as goal
 
 -- The line of a job that is active.

@@ -1,7 +1,6 @@
 -- `write_report` measures a report before it writes it. Assumes nothing.
 use native.Mathlib.Omega.{arith}
-use borrow.Author.Rules.{rules}
-use Rattle.report_writer.proofs.Fitting.{no_room, all-written}
+use Rattle.report_writer.proofs.Fitting.{all-written}
 use Rattle.report_writer.proofs.write_report.Goals as goal
 
 pub returns : goal.returns

@@ -1,10 +1,8 @@
 use Prim.Native.Nat.{◌-◌, ◌*◌, ◌≤◌}
-use mathlib.Core.Path.{◌≡◌, ap}
-use native.Mathlib.Omega.{arith}
+use mathlib.Core.Path.{◌≡◌}
 use lib.ListN.{length}
 use Rattle.spec_report.specs.Report.{joined}
-use Rattle.text_lines.proofs.JoinedLines.{joined-length-more}
-use Rattle.text_entry_lines.proofs.NotedBytes.{line_bytes, noted-bytes}
+use Rattle.text_entry_lines.proofs.NotedBytes.{line_bytes}
 use Rattle.text_entry_lines.proofs.entries_length.Given as goal
 
 abbrev pub invariant-loop-i : goal.invariant-loop-i

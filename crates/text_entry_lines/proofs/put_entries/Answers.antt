@@ -1,11 +1,9 @@
 -- `put_entries` writes the entry lines one behind the other. Assumes nothing.
-use Prim.Native.Nat.{◌-◌, ◌≤◌}
 use mathlib.Core.Path.{◌≡◌, sym, ap, ◌∙◌}
 use native.Mathlib.Omega.{arith}
 use lib.ListN.{length}
 use Rattle.spec_report.specs.Report.{joined}
-use Rattle.text_lines.specs.Fills.{Fills}
-use Rattle.text_lines.proofs.Fills.{keeps, renamed, nothing, once_more}
+use Rattle.text_lines.proofs.Fills.{keeps, renamed, once_more}
 use Rattle.text_lines.proofs.JoinedLines.{part_room}
 use Rattle.text_entry_lines.proofs.NotedBytes.{line_bytes, noted-bytes}
 use Rattle.text_entry_lines.proofs.put_entries.Goals as goal

@@ -3,7 +3,6 @@
 use Prim.Native.Nat.{◌-◌, ◌≤◌}
 use mathlib.Core.Path.{ap}
 use native.Mathlib.Omega.{arith}
-use borrow.Author.Rules.{rules}
 use Rattle.spec_format.specs.declared.Entry.{Entry}
 use Rattle.read_tables.specs.NoteTable.{Note, note_at}
 use Rattle.text_entry_runs.proofs.NotedLines.{OneRun, grows, begins, last-steps}

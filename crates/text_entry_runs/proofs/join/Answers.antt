@@ -1,6 +1,6 @@
 -- `join` meets its contract. The loop's invariant: the notes so far are the entry lines of the records so far, so they
 -- are no more than those, and no run has more steps. Assumes nothing.
-use Prim.Native.Nat.{ℕ, ◌-◌, ◌≤◌}
+use Prim.Native.Nat.{ℕ, ◌≤◌}
 use mathlib.Core.Path.{◌≡◌, refl, sym, ◌∙◌, ap}
 use mathlib.Core.List.{List}
 use native.Mathlib.Numerals.{add-one}
@@ -10,7 +10,7 @@ use lib.Seq.{take-suc, length-take-le}
 use Rattle.spec_format.specs.declared.Entry.{Entry}
 use Rattle.spec_format.proofs.Tabulated.{length-tabulate}
 use Rattle.spec_plan_text.specs.EntryLines.{longest_runs}
-use Rattle.read_tables.specs.NoteTable.{note_places, note_at}
+use Rattle.read_tables.specs.NoteTable.{note_at}
 use Rattle.text_entry_runs.specs.Joined.{line_noted, lines_noted}
 use Rattle.text_entry_runs.specs.Behind.{add_last}
 use Rattle.text_entry_runs.proofs.Behind.{one_more, no-more-lines, steps-at-most, at_most}

@@ -1,15 +1,11 @@
 -- `blocks_length` adds up the lengths of the block lines. Assumes nothing.
-use Prim.Native.Nat.{◌-◌, ◌*◌, ◌≤◌}
-use mathlib.Core.Path.{◌≡◌, ap, ◌∙◌}
+use mathlib.Core.Path.{◌≡◌, ap}
 use native.Mathlib.Omega.{arith}
-use borrow.Author.Rules.{rules}
 use lib.ListN.{length}
-use Rattle.spec_format.specs.declared.Sizes.{Sizes}
-use Rattle.spec_report.specs.Report.{joined}
 use Rattle.spec_plan_text.specs.PlanText.{block_line}
-use Rattle.read_tables.specs.PlanTable.{sizes_in, plan_in}
+use Rattle.read_tables.specs.PlanTable.{plan_in}
 use Rattle.text_lines.proofs.JoinedLines.{joined-length-more}
-use Rattle.text_plan_lines.proofs.TableLines.{placed, block-line}
+use Rattle.text_plan_lines.proofs.TableLines.{block-line}
 use Rattle.text_plan_lines.proofs.blocks_length.Goals as goal
 
 pub loop-b-preserved : goal.loop-b-preserved

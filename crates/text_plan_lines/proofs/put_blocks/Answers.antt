@@ -1,5 +1,5 @@
 -- `put_blocks` writes the block lines one behind the other. Assumes nothing.
-use Prim.Native.Nat.{◌-◌, ◌≤◌, ◌<◌}
+use Prim.Native.Nat.{◌<◌}
 use mathlib.Core.Path.{◌≡◌, ap}
 use native.Mathlib.Omega.{arith}
 use lib.ListN.{length}
@@ -9,7 +9,7 @@ use Rattle.spec_plan_text.specs.PlanText.{block_line}
 use Rattle.read_tables.specs.PlanTable.{sizes_in, plan_in}
 use Rattle.text_lines.proofs.Fills.{keeps, renamed, once_more}
 use Rattle.text_lines.proofs.JoinedLines.{part_room}
-use Rattle.text_plan_lines.proofs.TableLines.{placed, block-line}
+use Rattle.text_plan_lines.proofs.TableLines.{block-line}
 use Rattle.text_plan_lines.proofs.put_blocks.Goals as goal
 
 pub put_part-next-requires-clause-n_in_bounds : goal.put_part-next-requires-clause-n_in_bounds

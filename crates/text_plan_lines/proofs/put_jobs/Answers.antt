@@ -1,10 +1,10 @@
 -- `put_jobs` writes the job lines one behind the other. Assumes nothing.
-use Prim.Native.Nat.{ℕ, ◌-◌, ◌≤◌, ◌<◌}
+use Prim.Native.Nat.{◌<◌}
 use mathlib.Core.Path.{◌≡◌, ap}
 use native.Mathlib.Omega.{arith}
 use lib.ListN.{length}
 use Rattle.spec_report.specs.Report.{joined}
-use Rattle.read_tables.specs.PlanTable.{sizes_in, plan_in}
+use Rattle.read_tables.specs.PlanTable.{sizes_in}
 use Rattle.text_lines.proofs.Fills.{keeps, renamed, once_more}
 use Rattle.text_lines.proofs.JoinedLines.{part_room}
 use Rattle.text_plan_lines.proofs.TableLines.{job-line}

@@ -1,14 +1,8 @@
 -- `put_part` writes a line whose numbers stand in a table. Assumes nothing.
-use Prim.Native.Nat.{◌+◌}
 use mathlib.Core.Path.{ap}
-use native.Mathlib.Omega.{arith}
-use borrow.Author.Rules.{rules}
-use lib.ListN.{get_or}
 use Rattle.spec_text.specs.WrittenLines.{line_of}
-use Rattle.spec_format.proofs.Tabulated.{length-tabulate}
 use Rattle.text_lines.proofs.Fills.{renamed}
 use Rattle.text_plan_lines.proofs.TableLines.{part-is}
-use borrow.Author.Rules.{rules}
 use Rattle.text_plan_lines.proofs.put_part.Goals as goal
 
 pub put_line-requires-clause-numbers_in_bounds : goal.put_line-requires-clause-numbers_in_bounds
