@@ -16,7 +16,7 @@ pub bounds-records-at : goal.bounds-records-at
 bounds-records-at c =
     let notes : List ℕ = c.args.notes.now in
     let ends : c.loop-i.at + c.times_at.result ≡ length (listed_in (c.loop-i.i + 1) (notes)) = omega (arith, c.loop-i.invariant.2, c.times_at.ensures, one_more (notes) c.loop-i.i) in
-    let fits : c.loop-i.at + c.times_at.result ≤ 4000 =     omega (
+    let fits : c.loop-i.at + c.times_at.result ≤ 4000 = omega (
       arith,
       ends,
       c.requires.1,
@@ -29,7 +29,7 @@ pub loop-at-preserved : goal.loop-at-preserved
 loop-at-preserved c =
     let notes : List ℕ = c.args.notes.now in
     let ends : c.loop-i.at + c.times_at.result ≡ length (listed_in (c.loop-i.i + 1) (notes)) = omega (arith, c.loop-i.invariant.2, c.times_at.ensures, one_more (notes) c.loop-i.i) in
-    let fits : c.loop-i.at + c.times_at.result ≤ 4000 =     omega (
+    let fits : c.loop-i.at + c.times_at.result ≤ 4000 = omega (
       arith,
       ends,
       c.requires.1,
@@ -38,7 +38,7 @@ loop-at-preserved c =
     let inside : c.loop-at.at < 4000 = omega (arith, c.loop-at-test.true, fits) in
     let l = c.loop-at in
     let f = l.invariant.2 in
-        let e = c.entry_at-e.result in (
+    let e = c.entry_at-e.result in (
       omega (arith, c.loop-at-test.true),
       suc l.invariant.1,
       record {
