@@ -1,5 +1,6 @@
 // A text's single entries, as records in an array, run by the one loop.
 #![tactic(auto)]
+
 ghost use Rattle.std.specs.Prelude.{◌≤◌, take};
 ghost use Rattle.step_cells.specs.Tables.{lent};
 ghost use Rattle.run_loop.specs.RunReached.{Starts, Ran};

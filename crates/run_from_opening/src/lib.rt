@@ -1,6 +1,7 @@
 // The single entries of notes run from the opening on, where only how the run ends is wanted. The machine's tables and
 // the array of records are made here, and are gone when the run has ended.
 #![tactic(auto)]
+
 ghost use Rattle.std.specs.Prelude.{◌≤◌, take};
 ghost use Rattle.spec_format.specs.Sound.{Sound};
 ghost use Rattle.read_tables.specs.PlanTable.{plan_in};
