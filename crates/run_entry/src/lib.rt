@@ -1,6 +1,7 @@
 // What a judged entry does. The jobs' registers stay where the caller keeps them: one of them goes in and comes back by
 // value.
 #![tactic(auto)]
+
 ghost use Rattle.std.specs.Prelude.{◌≡◌, ◌+◌, ◌<◌, length, get_or, set};
 ghost use Rattle.step_cells.specs.CellTable.{cell_places, entries_at};
 ghost use Rattle.step_cells.specs.Tables.{lent};

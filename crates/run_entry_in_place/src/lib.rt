@@ -1,6 +1,7 @@
 // "A step changes one job's working record where it is kept": the job's registers are lent, and the covered step's
 // result is stored in them.
 #![tactic(auto)]
+
 ghost use Rattle.step_cells.specs.Tables.{lent};
 ghost use Rattle.run_entry.specs.Acting.{Asked, Gives};
 

@@ -1,6 +1,7 @@
 // "A whole schedule, already read into entry records, can also be run": the records are lent as a slice, and one loop
 // over it runs them one by one. A text's entries are run by the same loop.
 #![tactic(auto)]
+
 ghost use Rattle.std.specs.Prelude.{◌≤◌, ◌<◌, length, take};
 ghost use Rattle.step_cells.specs.Tables.{lent};
 ghost use Rattle.run_loop.specs.RunReached.{Starts, Ran};

@@ -1,13 +1,12 @@
 -- `records_of` gives the single entries of the first n notes. The outer loop's invariant: there are 4,000 records, and
 -- the first ones are the single entries of the notes so far. The inner loop's: behind those, the entry of the present
 -- note stands as many times as turns so far. Assumes nothing.
-use Prim.Native.Nat.{ℕ, suc, ◌+◌, ◌-◌, ◌≤◌, ◌<◌}
-use mathlib.Core.Path.{◌≡◌, refl, sym, ◌∙◌, subst}
-use mathlib.Core.List.{List, ◌++◌, append-nil}
+use Prim.Native.Nat.{ℕ, suc, ◌+◌, ◌≤◌, ◌<◌}
+use mathlib.Core.Path.{◌≡◌, sym, ◌∙◌}
+use mathlib.Core.List.{List, ◌++◌}
 use native.Mathlib.Nat.{le_antisymm}
 use native.Mathlib.Omega.{arith}
-use lib.ListN.{length, take, replicate, length-set}
-use Rattle.spec_format.specs.declared.Entry.{Entry}
+use lib.ListN.{length, replicate, length-set}
 use Rattle.read_tables.specs.NoteTable.{note_at, listed_in}
 use Rattle.spec_format.specs.Plan.{entries_in}
 use Rattle.read_single_entries.proofs.SingleEntries.{one_more, no-fewer, records-more, record-put}

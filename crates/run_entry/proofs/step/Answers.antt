@@ -1,0 +1,28 @@
+-- `step` meets its contract. Assumes nothing.
+use mathlib.Core.Path.{refl, ◌∙◌, ap}
+use native.Mathlib.Omega.{arith}
+use Rattle.step_cells.specs.Book.{Book}
+use Rattle.run_entry.proofs.Acts.{leaves}
+use Rattle.run_entry.proofs.Stepping.{stepped}
+use borrow.Author.Rules.{rules}
+use Rattle.run_entry.proofs.step.Goals as goal
+
+pub carry_out-requires : goal.carry_out-requires
+carry_out-requires c =
+    record {
+      plan = c.requires.ready.plan;
+      whole = c.requires.whole;
+      inside = (c.item-effect.result.registers, c.item-effect.ensures.change_inside);
+      room = c.item-effect.ensures.by_index_2 c.args.commits.now;
+      addresses = λ j. (c.requires.ready.rows c.args.p j).0;
+      few = c.requires.few;
+      committed = c.requires.committed;
+    }
+
+pub returns : goal.returns
+returns c =
+    stepped c.args.plan.now c.args.p c.args.w c.item-effect.result _ _ _
+    (omega (arith, c.requires.ready.plan.job, c.requires.ready.plan.jobs)) c.requires.whole (c.item-effect.ensures.by_index _)
+    c.item-effect.ensures.change_inside c.carry_out.ensures.carried c.carry_out.ensures.commits_after c.carry_out.ensures.whole
+    (record { stat = refl; store = refl; addr = refl; old = refl; new = refl; commits = refl })
+    c.count_entry.ensures
