@@ -8,7 +8,8 @@ use Rattle.report_bytes.proofs.+put_decimal.Goals as goal
 
 pub returns-then-n-lt10 : goal.returns-then-n-lt10
 returns-then-n-lt10 t c =
-    renamed (decimal c.args.n) (sym (decimal-small c.args.n c.if-n-lt10.true)) (widen 10 (omega arith) c.put_byte.ensures)
+    renamed (decimal c.args.n) (sym (decimal-small c.args.n c.if-n-lt10.true))
+    (widen 10 (omega arith) c.put_byte.ensures)
 
 -- The digits before the last are at most nine.
 pub put_byte-requires-2 : goal.put_byte-requires-2

@@ -11,6 +11,7 @@ use Rattle.report_lines.proofs.put_block.Goals as goal
 
 pub returns : goal.returns
 returns c =
-    let inside : c.args.number * c.args.words + c.args.words ≤ 2304 = block_inside c.args.words c.args.number (omega arith) (omega arith) in
+    let inside : c.args.number * c.args.words + c.args.words ≤ 2304 =
+    block_inside c.args.words c.args.number (omega arith) (omega arith) in
     let e = block-part c.args.words c.args.number c.args.store.now (omega (arith, inside)) in
     renamed _ (ap (line_of (bytes "block")) e) (widen 200 (omega arith) c.put_line.ensures)

@@ -17,7 +17,8 @@ one sizes bank store b = line_of (bytes "block") (block_in sizes.words store (ge
 abbrev pub invariant-loop-b : goal.invariant-loop-b
 invariant-loop-b l =
     (l.b ≤ l.sizes.blocks)
-    × Writes (joined l.b (one l.sizes (places l.cells bank_at 16) l.store)) (200 * l.b) l.at l.initial.buffer l.next l.buffer
+    × Writes (joined l.b (one l.sizes (places l.cells bank_at 16) l.store)) (200 * l.b)
+    l.at l.initial.buffer l.next l.buffer
 
 abbrev pub decreases-loop-b : goal.decreases-loop-b
 decreases-loop-b l =

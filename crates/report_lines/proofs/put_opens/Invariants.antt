@@ -16,7 +16,8 @@ one stat active k = cond (eqb (get_or active k 0) 1) (open_bytes k (get_or stat 
 
 abbrev pub invariant-loop-k : goal.invariant-loop-k
 invariant-loop-k l =
-    (l.k ≤ l.jobs) × Writes (joined l.k (one l.stat (places l.cells active_at 16))) (40 * l.k) l.at l.initial.buffer l.next l.buffer
+    (l.k ≤ l.jobs)
+    × Writes (joined l.k (one l.stat (places l.cells active_at 16))) (40 * l.k) l.at l.initial.buffer l.next l.buffer
 
 abbrev pub decreases-loop-k : goal.decreases-loop-k
 decreases-loop-k l =

@@ -6,7 +6,12 @@ use native.Mathlib.Omega.{arith}
 use Rattle.spec_format.specs.declared.Entry.{Entry}
 use Rattle.read_tables.specs.NoteTable.{Note, note_at}
 use Rattle.text_entry_runs.proofs.NotedLines.{OneRun, grows, begins, last-steps}
-use Rattle.text_entry_runs.proofs.add.Goals.{then-e-gt0+then-m-gt0+then-before-gt0+else-before-e, then-e-gt0+then-m-gt0+else-before-gt0, then-e-gt0+else-m-gt0, else-e-gt0}
+use Rattle.text_entry_runs.proofs.add.Goals.{
+  then-e-gt0+then-m-gt0+then-before-gt0+else-before-e,
+  then-e-gt0+then-m-gt0+else-before-gt0,
+  then-e-gt0+else-m-gt0,
+  else-e-gt0,
+}
 use Rattle.text_entry_runs.proofs.add.Goals as goal
 
 pub overflow_add-times : goal.overflow_add-times
@@ -18,7 +23,8 @@ overflow_add-times c =
       run-last = omega (arith, c.if-before-gt0.true, ap (λ (e : Entry). e.kind) entry);
       same-card = omega (arith, c.if-before-e.true, ap (λ (e : Entry). e.first) entry);
     } in
-    let few-steps : (last-note).times ≤ 4000 = last-steps 4000 c.args.m c.args.notes.now (omega arith) (one-run).run-last c.requires.steps_at_most in
+    let few-steps : last-note.times ≤ 4000 =
+    last-steps 4000 c.args.m c.args.notes.now (omega arith) one-run.run-last c.requires.steps_at_most in
     record { fits = omega (arith, c.count_at-times.ensures, few-steps) }
 
 pub returns-then-before-e : goal.returns-then-before-e

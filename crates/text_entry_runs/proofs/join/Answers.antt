@@ -31,14 +31,14 @@ loop-i-init c = (omega arith, omega arith, refl)
 
 pub add-m-requires-clause-m_bound : goal.add-m-requires-clause-m_bound
 add-m-requires-clause-m_bound c =
-    let all-records : length c.args.records ≡ 4000 = c.well_formed.0.1.0.1 in
+    let all-records : length c.args.records ≡ 4000 = omega arith in
     let so_far : List Entry = take c.loop-i.i c.args.records in
     let many : length so_far ≡ c.loop-i.i = length-take-le c.loop-i.i c.args.records (omega (arith, all-records)) in
     (omega (arith, many, no_more so_far c.loop-i.m c.loop-i.notes c.loop-i.invariant.2), c.loop-i.invariant.1)
 
 pub add-m-requires-clause-steps_at_most : goal.add-m-requires-clause-steps_at_most
 add-m-requires-clause-steps_at_most c =
-    let all-records : length c.args.records ≡ 4000 = c.well_formed.0.1.0.1 in
+    let all-records : length c.args.records ≡ 4000 = omega arith in
     let so_far : List Entry = take c.loop-i.i c.args.records in
     let many : length so_far ≡ c.loop-i.i = length-take-le c.loop-i.i c.args.records (omega (arith, all-records)) in
     rw c.loop-i.invariant.2
@@ -46,7 +46,7 @@ add-m-requires-clause-steps_at_most c =
 
 pub loop-i-preserved : goal.loop-i-preserved
 loop-i-preserved c =
-    let all-records : length c.args.records ≡ 4000 = c.well_formed.0.1.0.1 in
+    let all-records : length c.args.records ≡ 4000 = omega arith in
     let e = get_or c.args.records c.loop-i.i no_record in (
       omega arith,
       c.add-m.ensures.long ∙ c.loop-i.invariant.1,

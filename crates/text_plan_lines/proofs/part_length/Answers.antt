@@ -9,4 +9,7 @@ use Rattle.text_plan_lines.proofs.TableLines.{part-is}
 use Rattle.text_plan_lines.proofs.part_length.Goals as goal
 
 pub returns-clause-value : goal.returns-clause-value
-returns-clause-value c = let numbers = part-is c.args.table.now c.args.from c.args.n c.requires.1.1 in c.line_length.ensures.value ∙ ap (λ (ns : List ℕ). c.args.first + length (fields_behind (map decimal ns))) numbers
+returns-clause-value c =
+    let numbers = part-is c.args.table.now c.args.from c.args.n c.requires.1.1 in
+    c.line_length.ensures.value
+    ∙ ap (λ (ns : List ℕ). c.args.first + length (fields_behind (map decimal ns))) numbers

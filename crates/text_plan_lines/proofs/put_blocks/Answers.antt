@@ -27,7 +27,8 @@ loop-b-preserved c =
     let t = c.args.plan.now in
     let z = c.sizes-sizes in
     let is = block-line t c.requires.sound z.result z.ensures c.loop-b.b (omega arith) in
-    (omega arith, once_more c.loop-b.b (block_line (plan_in t)) c.loop-b.invariant.1 (renamed _ is c.put_part-next.ensures))
+    let line = block_line (plan_in t) in
+    (omega arith, once_more c.loop-b.b line c.loop-b.invariant.1 (renamed _ is c.put_part-next.ensures))
 
 pub returns : goal.returns
 returns c =

@@ -11,5 +11,6 @@ put_line-requires-clause-numbers_in_bounds c =
 
 pub returns : goal.returns
 returns c =
-    renamed _ (ap (line_of c.args.first.now) (part-is c.args.table.now c.args.from c.args.n c.requires.first_len_bound.1.1))
+    let numbers = part-is c.args.table.now c.args.from c.args.n c.requires.first_len_bound.1.1 in
+    renamed _ (ap (line_of c.args.first.now) numbers)
     c.put_line.ensures
