@@ -1,5 +1,6 @@
 // How many blocks an update writes, and how many words the memory has.
 #![tactic(auto)]
+
 ghost use Rattle.std.specs.Prelude.{◌≡◌, cond, ◌≤◌, ◌<◌, ◌+◌, ◌*◌};
 ghost use Rattle.spec_format.specs.Plan.{block_of, tabulate};
 ghost use Rattle.read_tables.specs.PlanTable.{target_at};

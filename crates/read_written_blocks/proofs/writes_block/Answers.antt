@@ -1,15 +1,13 @@
 -- `writes_block` searches the moves so far for one that writes the block. Assumes nothing.
-use Prim.Native.Nat.{ℕ, ◌+◌, ◌≤◌, ◌-◌}
-use mathlib.Core.Path.{◌≡◌, refl, sym}
-use mathlib.Core.Bool.{Bool, false}
+use Prim.Native.Nat.{ℕ, ◌+◌}
+use mathlib.Core.Path.{sym}
+use mathlib.Core.Bool.{Bool}
 use native.Mathlib.Omega.{arith}
-use borrow.Author.Rules.{rules}
-use borrow.Author.Tests.{eq-eqb, ne_eqb}
+use borrow.Author.Tests.{eq-eqb}
 use lib.Dec.{eqb}
-use Rattle.spec_format.specs.Plan.{block_of, tabulate}
+use Rattle.spec_format.specs.Plan.{block_of}
 use Rattle.read_tables.specs.PlanTable.{target_at}
-use Rattle.read_line_promises.specs.Promises.{writes_to}
-use Rattle.read_line_promises.proofs.Search.{found, none_more}
+use Rattle.read_line_promises.proofs.Search.{found}
 use Rattle.read_written_blocks.proofs.writes_block.Goals as goal
 
 -- Whether a word is in a block of this size.

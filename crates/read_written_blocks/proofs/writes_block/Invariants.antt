@@ -1,14 +1,9 @@
-use Prim.Native.Nat.{ℕ, ◌+◌, ◌≤◌, ◌-◌}
-use mathlib.Core.Path.{◌≡◌, refl, sym}
-use mathlib.Core.Bool.{Bool, false}
-use native.Mathlib.Omega.{arith}
-use borrow.Author.Rules.{rules}
-use borrow.Author.Tests.{eq-eqb, ne_eqb}
-use lib.Dec.{eqb}
-use Rattle.spec_format.specs.Plan.{block_of, tabulate}
+use Prim.Native.Nat.{◌+◌, ◌≤◌, ◌-◌}
+use mathlib.Core.Path.{◌≡◌}
+use mathlib.Core.Bool.{false}
+use Rattle.spec_format.specs.Plan.{tabulate}
 use Rattle.read_tables.specs.PlanTable.{target_at}
 use Rattle.read_line_promises.specs.Promises.{writes_to}
-use Rattle.read_line_promises.proofs.Search.{found, none_more}
 use Rattle.read_written_blocks.proofs.writes_block.Given as goal
 
 abbrev pub invariant-loop-i : goal.invariant-loop-i
