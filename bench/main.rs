@@ -1,7 +1,7 @@
 // Times the proved machine and writer against the plain ones of plain.rs, on a full plan with 4,000 accepted entries,
 // as a text and as records beside the plan's text. From the project's root:
 //
-// rt staticlib public_point_memory
+// sh tools/static_library.sh
 // rustc -O bench/main.rs -L target/staticlib -l static=public_point_memory -o target/bench && target/bench
 //
 // Both have to give the report in bench-full.report before anything is timed; as records its last line counts those. A

@@ -1,7 +1,7 @@
 // Compares the proved library with the plain implementation of bench/plain.rs on random and damaged texts and schedules
 // (cases.rs), the same ones in every run. From the project's root:
 //
-// rt staticlib public_point_memory
+// sh tools/static_library.sh
 // rustc -O compare/main.rs -L target/staticlib -l static=public_point_memory -o target/compare && target/compare
 //
 // A case is a text, or a plan's text and records, with a lent buffer of some room. Both checks are asked of the text,

@@ -2,7 +2,7 @@ r"""Compares a card model with the proved library after each entry of a schedule
 
 From the project's root, once:
 
-    rt staticlib public_point_memory
+    sh tools/static_library.sh
     cc -shared -Wl,--whole-archive target/staticlib/libpublic_point_memory.a -Wl,--no-whole-archive \
         -o target/libpoint_memory.so
 
@@ -10,7 +10,7 @@ Then, for a text with a plan and its schedule:
 
     python3 examples/compare.py examples/three-cards.txt
     python3 examples/compare.py examples/three-cards.txt --mistake split-a7
-    python3 examples/compare.py examples/three-cards.txt --command target/bin/point_memory
+    python3 examples/compare.py examples/three-cards.txt --command crates/point_memory/out/point_memory
 
 The first compares the model in card_model.py, the second that model with a deliberate mistake. The third compares a
 command of your own: it reads a text on standard input and prints the report, as document 01 says, and is run on the

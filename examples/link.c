@@ -3,7 +3,7 @@
  * writes the one text for either. It prints the reports and the texts. The status is 0 only if every answer is what the
  * documents say. From the project's root:
  *
- * rt staticlib public_point_memory
+ * sh tools/static_library.sh
  * cc -std=c99 -O2 -I include examples/link.c -L target/staticlib -l:libpublic_point_memory.a -o target/link_c
  * target/link_c
  */

@@ -2,7 +2,7 @@
 // one text for either. It prints the reports and the texts. The status is 0 only if they are what the documents say.
 // From the project's root:
 //
-// rt staticlib public_point_memory
+// sh tools/static_library.sh
 // rustc -O examples/link.rs -L target/staticlib -l static=public_point_memory -o target/link_rs && target/link_rs
 
 /// A plan of one card, job, block and word; its update adds 2 to the word.

@@ -1,9 +1,9 @@
 /*
  * The point memory machine for C (C99 and later) and C++: check a text, run a text, run a schedule of records, write
- * the one text for either. `rt staticlib public_point_memory` builds the library,
- * target/staticlib/libpublic_point_memory.a; examples/link.c shows how it is linked. Every function is proved to answer
- * what the definitions say that are written from document 01 and the first four requests of document 02, for all
- * bytes, records and lengths handed in; docs/TRUST.md says what that rests on.
+ * the one text for either. `sh tools/static_library.sh` builds the library, target/staticlib/libpublic_point_memory.a;
+ * examples/link.c shows how it is linked. Every function is proved to answer what the definitions say that are written
+ * from document 01 and the first four requests of document 02, for all bytes, records and lengths handed in;
+ * docs/TRUST.md says what that rests on.
  *
  * What a caller must ensure:
  *
