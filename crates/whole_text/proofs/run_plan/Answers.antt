@@ -40,7 +40,7 @@ run_list-requires c =
     let starts : (text : List ℕ) →
         Reads text c.args.plan.now c.args.notes.now c.args.parsed c.args.lines
     → Starts c.args.plan.now (take c.args.parsed.entries c.records_of.result)
-    (lent c.«open».new.1.0 c.«open».new.1.1.0 c.«open».new.1.1.1.0
+    (lent c.«open».new.cells c.«open».new.stat c.«open».new.store
     empty_rows empty_rows empty_rows (replicate 4000 (0 ∷ 0 ∷ 0 ∷ []))) = λ text r.     the-start text c.args.plan.now c.args.notes.now c.args.parsed c.args.lines r _ _ _ _ _
     c.«open».ensures (length-replicate {A = List ℕ} 4000 (0 ∷ 0 ∷ 0 ∷ [])) c.records_of.ensures in
     (
@@ -54,13 +54,12 @@ finish-requires-clause-reportable c =
     let starts : (text : List ℕ) →
         Reads text c.args.plan.now c.args.notes.now c.args.parsed c.args.lines
     → Starts c.args.plan.now (take c.args.parsed.entries c.records_of.result)
-    (lent c.«open».new.1.0 c.«open».new.1.1.0 c.«open».new.1.1.1.0
+    (lent c.«open».new.cells c.«open».new.stat c.«open».new.store
     empty_rows empty_rows empty_rows (replicate 4000 (0 ∷ 0 ∷ 0 ∷ []))) = λ text r.     the-start text c.args.plan.now c.args.notes.now c.args.parsed c.args.lines r _ _ _ _ _
     c.«open».ensures (length-replicate {A = List ℕ} 4000 (0 ∷ 0 ∷ 0 ∷ [])) c.records_of.ensures in
     let reads : Reads c.requires.0 c.args.plan.now c.args.notes.now c.args.parsed c.args.lines = c.requires.1 in
-    let left : Tables = let z = c.run_list.new.1.1.1 in
-    lent z.0 z.1.0 z.1.1.0 z.1.1.1.0 z.1.1.1.1.0 z.1.1.1.1.1.0
-    z.1.1.1.1.1.1.0 in
+    let left : Tables = let z = c.run_list.new in
+    lent z.cells z.stat z.store z.addr z.old z.new z.commits in
     let end-so :     c.end_of-end.result
     ≡ end_of (halt_of (book_of (left)).halt) ((book_of (left)).entries + 1)
     (line_in (listed_in c.args.parsed.notes c.args.notes.now) (book_of (left)).entries)
@@ -81,13 +80,12 @@ finish-requires-clause-end_bound c =
     let starts : (text : List ℕ) →
         Reads text c.args.plan.now c.args.notes.now c.args.parsed c.args.lines
     → Starts c.args.plan.now (take c.args.parsed.entries c.records_of.result)
-    (lent c.«open».new.1.0 c.«open».new.1.1.0 c.«open».new.1.1.1.0
+    (lent c.«open».new.cells c.«open».new.stat c.«open».new.store
     empty_rows empty_rows empty_rows (replicate 4000 (0 ∷ 0 ∷ 0 ∷ []))) = λ text r.     the-start text c.args.plan.now c.args.notes.now c.args.parsed c.args.lines r _ _ _ _ _
     c.«open».ensures (length-replicate {A = List ℕ} 4000 (0 ∷ 0 ∷ 0 ∷ [])) c.records_of.ensures in
     let reads : Reads c.requires.0 c.args.plan.now c.args.notes.now c.args.parsed c.args.lines = c.requires.1 in
-    let left : Tables = let z = c.run_list.new.1.1.1 in
-    lent z.0 z.1.0 z.1.1.0 z.1.1.1.0 z.1.1.1.1.0 z.1.1.1.1.1.0
-    z.1.1.1.1.1.1.0 in
+    let left : Tables = let z = c.run_list.new in
+    lent z.cells z.stat z.store z.addr z.old z.new z.commits in
     let end-so :     c.end_of-end.result
     ≡ end_of (halt_of (book_of (left)).halt) ((book_of (left)).entries + 1)
     (line_in (listed_in c.args.parsed.notes c.args.notes.now) (book_of (left)).entries)
@@ -108,12 +106,11 @@ returns c =
     let starts : (text : List ℕ) →
         Reads text c.args.plan.now c.args.notes.now c.args.parsed c.args.lines
     → Starts c.args.plan.now (take c.args.parsed.entries c.records_of.result)
-    (lent c.«open».new.1.0 c.«open».new.1.1.0 c.«open».new.1.1.1.0
+    (lent c.«open».new.cells c.«open».new.stat c.«open».new.store
     empty_rows empty_rows empty_rows (replicate 4000 (0 ∷ 0 ∷ 0 ∷ []))) = λ text r.     the-start text c.args.plan.now c.args.notes.now c.args.parsed c.args.lines r _ _ _ _ _
     c.«open».ensures (length-replicate {A = List ℕ} 4000 (0 ∷ 0 ∷ 0 ∷ [])) c.records_of.ensures in
-    let left : Tables = let z = c.run_list.new.1.1.1 in
-    lent z.0 z.1.0 z.1.1.0 z.1.1.1.0 z.1.1.1.1.0 z.1.1.1.1.1.0
-    z.1.1.1.1.1.1.0 in
+    let left : Tables = let z = c.run_list.new in
+    lent z.cells z.stat z.store z.addr z.old z.new z.commits in
     let end-so :     c.end_of-end.result
     ≡ end_of (halt_of (book_of (left)).halt) ((book_of (left)).entries + 1)
     (line_in (listed_in c.args.parsed.notes c.args.notes.now) (book_of (left)).entries)

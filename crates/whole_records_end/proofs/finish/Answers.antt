@@ -1,0 +1,10 @@
+-- `finish` meets its contract. Assumes nothing.
+use mathlib.Core.Path.{◌∙◌}
+use borrow.Author.Rules.{rules}
+use Rattle.report_ending.proofs.WrittenOut.{ended-as}
+use Rattle.whole_records_end.proofs.finish.Goals as goal
+
+pub returns : goal.returns
+returns c text es addr old new k =
+    let w = c.report_of-finished.ensures text es addr old new k in
+    (c.Ended-of.ensures ∙ ended-as w, w.left_is)
