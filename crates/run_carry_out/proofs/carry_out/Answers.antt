@@ -1,17 +1,13 @@
 -- `carry_out` has one arm for each kind of change, and its law. Assumes nothing.
-use Prim.Native.Nat.{◌+◌, ◌*◌, ◌≤◌}
 use mathlib.Core.Path.{◌≡◌}
 use native.Mathlib.Omega.{arith}
 use lib.IntN.{pos}
-use lib.ListN.{length-set}
 use mir.Syntax.{w32}
 use mir.Val.{to_z}
 use mir.ValLaws.{to_z-of_z}
 use Rattle.read_tables.specs.PlanTable.{sizes_in}
-use Rattle.step_cells.proofs.StoreRoom.{block_inside}
 use Rattle.run_changes.proofs.CopiedWords.{block-after}
 use Rattle.run_carry_out.proofs.Carrying.{low, nothing-done, version-done, announced-done, returned-done, pending_done, trans-done, listed-done, block-done, word-done, published-done, bank-done, cleared-done, decided-done, commit-done}
-use borrow.Author.Rules.{rules}
 use Rattle.run_carry_out.proofs.carry_out.Goals as goal
 
 pub copy_words-requires-clause-words_bound : goal.copy_words-requires-clause-words_bound

@@ -1,10 +1,7 @@
 -- `step` meets its contract. Assumes nothing.
-use mathlib.Core.Path.{refl, ◌∙◌, ap}
+use mathlib.Core.Path.{refl}
 use native.Mathlib.Omega.{arith}
-use Rattle.step_cells.specs.Book.{Book}
-use Rattle.run_entry.proofs.Acts.{leaves}
 use Rattle.run_entry.proofs.Stepping.{stepped}
-use borrow.Author.Rules.{rules}
 use Rattle.run_entry.proofs.step.Goals as goal
 
 pub carry_out-requires : goal.carry_out-requires
