@@ -9,10 +9,10 @@ use mathlib.Core.Path.{◌≡◌}
 use Prim.Native.Nat.{ℕ, zero}
 use mathlib.Core.List.{List, [], ◌∷◌, ◌++◌, map}
 use seplogic.Ra.Ura.{Ura}
-use seplogic.Ra.TreeShare.{full_share}
+use base.Fraction.{full_share}
 use lib.Dec.{T}
 use mir.Syntax.{Ty, deref, place, Opd as Operand, copy, Rv as RValue, addr_of, Body, seq, assign}
-use mir.Syntax.{skip, block, loop, cond, switch, exit, return, call}
+use mir.Syntax.{skip, block, loop, cond, switch, exit, return, unreachable, call, call_v, lend_static}
 use mir.Val.{Val, vptr, WT, has_ty}
 use base.Logic.{SProp, ent, sep, emp, id⊢, via, mono_r, fst∗}
 use base.Fml.{Share, fat, froom, fdies}
@@ -35,7 +35,10 @@ after (cond c a b) = skip
 after (switch c ks) = skip
 after (exit n) = skip
 after return = skip
+after unreachable = skip
 after (call f xs p) = skip
+after (call_v f xs ys p) = skip
+after (lend_static s a p) = skip
 
 module _ {M : Type 1} {𝓤 : Ura M} {𝓛 : Logic 𝓤} {K : Type 0} {Γ : List (Item 𝓤)} where
   open 𝓛 use {H}

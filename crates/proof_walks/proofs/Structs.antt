@@ -1,26 +1,33 @@
 -- An array of n values of a declared struct S of plain data, and a slice of them.
 --     Structs, vals    the array as a type, and its machine value
 --     tell, typed      the machine value is the only one, and has the array's MIR type
---     make, halve      what the array owns is had for nothing, and the shares of its elements can be halved
+--     make, halve      what the array owns is had for nothing, and what is shared of its elements is opened and halved
+--     halves           the shares of its elements can be halved
+--     shared, free, free-whole     a `&` to an element is made by tokens, and with none, and one to the array with none
 --     reads-one        an element of a `&[S]`, to which one local points, is read into another
--- It says nothing of the crate. `make`, `typed`, `halve` and `reads-one` take `Logic`. The rest assumes nothing.
+-- It says nothing of the crate. `tell`, `Structs` and `vals` assume nothing. The rest takes `Logic`.
 use Prim.Native.Nat.{ℕ, suc, ◌<◌}
 use mathlib.Core.Path.{◌≡◌, refl, sym, subst}
 use mathlib.Core.List.{List, [], ◌∷◌, map}
 use lib.Dec.{T}
 use lib.ListN.{length, get_or}
 use seplogic.Ra.Ura.{Ura}
-use seplogic.Ra.TreeShare.{full_share}
+use base.Fraction.{full_share}
 use mir.Syntax.{Ty, ty_array, named, deref, place, copy, rv_opd, Body, seq, assign}
 use mir.Val.{Val, WT, has_ty, vptr}
-use base.Fml.{Lft, Share, fat, froom, flft}
+use base.Fml.{Lft, Share, Fml, fat, froom, flft}
 use prog.Wp.{Env, Calls, Loops, spot_of}
-use types.Logic.{Logic}
-use types.Kit.{Item, Post, Seq, ‵, nth, put, runs, ◌$◌, move, fsplit, fjoin}
+use ghost.Rules.{Halves}
+use types.Logic.{Logic, sem}
+use types.Kit.{Item, Post, Seq, ‵, nth, put, runs, ◌$◌, !, qed, move, drop, fsplit, fjoin, feq_i, done}
+use types.Share.{parts, arr_parts}
 use types.Run.{look, look_raw, stop, hop, from, load, of_opd}
 use denote.RattleType.{RattleType}
 use denote.Array.{Array, array_val, Array-Makes, Array-Tells, Array-Lawful}
-use denote.Memory.{lone, mem}
+use denote.Memory.{lone, mem, shares}
+use denote.Opens.{Cuts-Halves, Cuts-map}
+use denote.Copied.{each_Cuts, Array-Copied}
+use denote.Shares.{Shares}
 use denote.Laws.{Is, Tells, Makes, shows}
 use denote.Ref.{Bor}
 use denote.Slice.{ShrSlice, shr_slice_vals}
@@ -28,8 +35,9 @@ use denote.Index.{place as at_place, elem_out, elem_back, looks_slice, shuts_sli
 use denote.Struct.Declared.{Declared, fields, row}
 use denote.Struct.Struct.{Plains}
 use denote.Struct.Laws as LL
-use borrow.Table.Copies.{Halved, halved, c_struct}
+use borrow.Table.Copies.{Halved, halved, Shares-copy, c_struct}
 use Rattle.proof_walks.proofs.JoinedSteps.{sets}
+use Rattle.proof_walks.proofs.Lent.{Frees}
 
 module _ (S : Declared) where
   -- The array as a type.
@@ -54,6 +62,28 @@ module _ (S : Declared) where
       -- The shares of its elements can be halved, where the struct is Copy.
       pub halve : LL.Copyables S.parts → Halved 𝓛 (row S)
       halve c = halved 𝓛 (c_struct S L c)
+
+      -- The same of the shares alone: a share of the elements, side by side, is its two halves.
+      pub halves : LL.Copyables S.parts → (xs : List S.D) (b o : ℕ)
+          → Halves 𝓤 𝓛.H 𝓛.A (λ s. (arr_parts (shares (row S)) (length xs)).part s xs b o)
+      halves c xs b o =
+          let P : Share → Fml = λ s. parts (mem (row S)) (shares (row S)) s xs b o in
+          let Q : Share → Fml = λ s. (arr_parts (shares (row S)) (length xs)).part s xs b o in
+          Cuts-Halves 𝓛 Q (Cuts-map 𝓛 P Q
+          (λ s. qed 𝓛 (‵ (P s) ∷ []) {P = sem 𝓛 (Q s)} (feq_i ! ℕ (length xs) (length xs) refl $ done !))
+          (λ s. qed 𝓛 (‵ (Q s) ∷ []) {P = sem 𝓛 (P s)} (fsplit ! $ drop ! $ done !))
+          (each_Cuts 𝓛 (row S) (LL.copied S c 𝓛) xs b o))
+
+      -- A `&` to one is made by the law that `lend-front` takes, and out of memory with no token, as `shows-slice` and
+      -- `shows-whole` take it.
+      pub shared : LL.Copyables S.parts → (l : Lft) → Shares 𝓛 (row S) l
+      shared c l = Shares-copy 𝓛 (c_struct S L c) l
+
+      pub free : LL.Copyables S.parts → Frees 𝓛 (row S)
+      free c = (LL.copied S c 𝓛).lends full_share
+
+      pub free-whole : LL.Copyables S.parts → (n : ℕ) → Frees 𝓛 (Structs n)
+      free-whole c n = (Array-Copied 𝓛 (row S) (LL.copied S c 𝓛) tt n).lends full_share
 
   -- What it owns is had for nothing.
   pub make : Plains (fields S) → {M : Type 1} {𝓤 : Ura M} (𝓛 : Logic 𝓤) (n : ℕ)
@@ -82,13 +112,12 @@ module _ {M : Type 1} {𝓤 : Ura M} {𝓛 : Logic 𝓤} {K : Type 0} {Γ : List
       let b = x.ref_ptr.0 in
       let o = x.ref_ptr.1 in
       let v = LL.val S L (get_or x.now n d) in
-      fsplit t $ move t (1 ∷ []) $ fsplit t $ move t (1 ∷ 3 ∷ []) $
-      looks_slice t tt (row S) (Is (row S)) (shows 𝓛 (row S)) (LL.vals S L) (LL.tells S L) (LL.copy S cs 𝓛)
-      x.now b o (λ q'.
+      fsplit t $ move t (1 ∷ 2 ∷ []) $
+      looks_slice t tt (row S) (LL.copied S cs 𝓛) x.now b o (λ q'.
       elem_out t (row S) (Is (row S)) (shows 𝓛 (row S)) (LL.vals S L) (LL.tells S L) q' x.now n d b o inside
       (λ is.
-      sets t (of_opd t (load t (from t (hop t (look t (suc (suc (suc (suc (suc (suc (suc a))))))) points) (stop t)))
-      (look_raw t 0 refl))) (suc (suc (suc (suc (suc (suc (suc c))))))) empty
+      sets t (of_opd t (load t (from t (hop t (look t (suc (suc (suc (suc (suc (suc a)))))) points) (stop t)))
+      (look_raw t 0 refl))) (suc (suc (suc (suc (suc (suc c)))))) empty
       (subst (λ (τ : Ty). T (has_ty τ v) × WT v) (sym same) ((LL.lawful S L 𝓛).typed (get_or x.now n d) _ is).0) $
       elem_back t (row S) q' x.now n d (v ∷ []) b o inside $ shuts_slice t tt (row S) q' x.now b o $
-      move t (2 ∷ 1 ∷ []) $ fjoin t $ move t (2 ∷ 0 ∷ []) $ fjoin t $ go is))
+      move t (2 ∷ 1 ∷ []) $ fjoin t $ go is))

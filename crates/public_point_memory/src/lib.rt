@@ -1,5 +1,5 @@
-// The functions that other languages link (`rt staticlib public_point_memory`, include/point_memory.h). A slice is
-// passed as a pointer and a length. None has a `requires`, and none is handed a state.
+// The functions that other languages link, by the exports of public_point_memory_c (include/point_memory.h). None has a
+// `requires`, and none is handed a state.
 #![tactic(auto)]
 ghost use Rattle.std.specs.Prelude.{◌≡◌};
 ghost use Rattle.spec_format.specs.Reading.{reading, verdict_of};
@@ -15,24 +15,21 @@ use spec_format::{Entry, Form};
 use step_cells::CELL_PLACES;
 
 // Judges a text by the numbers 1 to 10, 16 and 17: see public_reference::check.
-#[unsafe(no_mangle)]
-pub extern "C" fn point_memory_check(text: &[u8]) -> Answer
+pub fn point_memory_check(text: &[u8]) -> Answer
     ensures { result ≡ answer_of (verdict_of (reading Form.Schedule text.now)) }
 {
     public_reference::answer_of(public_reference::check(text, Form::Schedule))
 }
 
 // The same of a plan's text, in which an entry line is 3.
-#[unsafe(no_mangle)]
-pub extern "C" fn point_memory_check_plan(text: &[u8]) -> Answer
+pub fn point_memory_check_plan(text: &[u8]) -> Answer
     ensures { result ≡ answer_of (verdict_of (reading Form.PlanAlone text.now)) }
 {
     public_reference::answer_of(public_reference::check(text, Form::PlanAlone))
 }
 
 // Runs a text: see public_reference::run.
-#[unsafe(no_mangle)]
-pub extern "C" fn point_memory_run(text: &[u8], buffer: &mut [u8]) -> Ended
+pub fn point_memory_run(text: &[u8], buffer: &mut [u8]) -> Ended
     ensures value { result ≡ ended_of (run_text text.now) buffer.old }
     ensures buffer_after { buffer.new ≡ left (run_text text.now) buffer.old }
 {
@@ -42,8 +39,7 @@ pub extern "C" fn point_memory_run(text: &[u8], buffer: &mut [u8]) -> Ended
 // "A whole schedule, already read into entry records, can also be run": the records run one after another beside a
 // plan's text. The report stands in the first places of the lent buffer; what lies behind it stays as it was, and where
 // no report is written all of it does.
-#[unsafe(no_mangle)]
-pub extern "C" fn point_memory_run_schedule(
+pub fn point_memory_run_schedule(
     text: &[u8],
     records: &[Entry],
     buffer: &mut [u8],
@@ -86,8 +82,7 @@ pub extern "C" fn point_memory_run_schedule(
 }
 
 // Writes a text: see public_writer::write.
-#[unsafe(no_mangle)]
-pub extern "C" fn point_memory_write(text: &[u8], buffer: &mut [u8]) -> Ended
+pub fn point_memory_write(text: &[u8], buffer: &mut [u8]) -> Ended
     ensures value { result ≡ ended_of (write_text text.now) buffer.old }
     ensures buffer_after { buffer.new ≡ left (write_text text.now) buffer.old }
 {
@@ -97,8 +92,7 @@ pub extern "C" fn point_memory_write(text: &[u8], buffer: &mut [u8]) -> Ended
 // Writes the one text of a plan's text with records: the records are noted as a text's entry lines are, and the text
 // is written from the notes. It stands in the first places of the lent buffer; what lies behind it stays as it was, and
 // where no text is written all of it does.
-#[unsafe(no_mangle)]
-pub extern "C" fn point_memory_write_schedule(
+pub fn point_memory_write_schedule(
     text: &[u8],
     records: &[Entry],
     buffer: &mut [u8],

@@ -1,5 +1,6 @@
 // The numbers of a line that has at most three.
 #![tactic(auto)]
+
 ghost use Rattle.std.specs.Prelude.{◌≡◌, ◌≤◌, ◌+◌, length};
 ghost use Rattle.spec_text.specs.Lines.{numbers};
 ghost use Rattle.read_fields.specs.FieldPlaces.{fields_at};

@@ -1,5 +1,6 @@
 // One line of a text, from its own first byte: its kind, whether it can stand where it does, and what it says.
 #![tactic(auto)]
+
 ghost use Rattle.std.specs.Prelude.{◌≡◌, ◌≤◌, ◌<◌, ◌+◌, length};
 ghost use Rattle.read_fields.specs.FieldPlaces.{fields_at};
 ghost use Rattle.spec_format.specs.ParsedLines.{directive_of, numbers_for};

@@ -1,6 +1,7 @@
 // How far a reading has come, the answers of reading one line, and the kinds of lines that hold a move or an entry.
 // specs/ says what reading a line promises, and proofs/ has the laws behind it, kind by kind. No code.
 #![tactic(auto)]
+
 use spec_format::Fault;
 
 // How much of a text has been read, besides what stands in the plan's table: how many lines, jobs, blocks and single

@@ -1,6 +1,7 @@
 // A schedule of records, noted as the entry lines of a text are. The records are lent as a slice, and one loop over it
 // notes them one by one; everything else takes them from the notes.
 #![tactic(auto)]
+
 ghost use Rattle.read_records.specs.Noted.{to_run, Noted};
 ghost use Rattle.std.specs.Prelude.{◌≡◌};
 

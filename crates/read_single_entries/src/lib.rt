@@ -1,5 +1,6 @@
 // The single entries of a text, from the notes on its entry lines: as records for the loop, and the line of one.
 #![tactic(auto)]
+
 ghost use Rattle.std.specs.Prelude.{◌≡◌, ◌≤◌, length, take};
 ghost use Rattle.spec_report.specs.Outcomes.{line_in};
 ghost use Rattle.read_tables.specs.NoteTable.{listed_in};

@@ -1,6 +1,7 @@
 // Where the numbers of a plan and of the notes on a text's entry lines stand in the tables that are lent, and an
 // accessor for each. The code of no other crate knows a place of a table, but for where the opening words begin.
 #![tactic(auto)]
+
 ghost use Rattle.std.specs.Prelude.{◌≡◌, [], ◌∷◌, ◌+◌, ◌<◌, get_or};
 ghost use Rattle.spec_format.specs.Plan.{target as target_of};
 ghost use Rattle.read_tables.specs.Puts.{Put};

@@ -1,6 +1,7 @@
 // A whole text is read once, line by line: its plan is put into the plan's table as it is read, and its entry lines are
 // noted in theirs.
 #![tactic(auto)]
+
 ghost use Rattle.std.specs.Prelude.{◌≡◌, ◌≤◌, ◌<◌, length};
 ghost use Rattle.spec_format.specs.Reading.{reading};
 ghost use Rattle.read_tables.specs.PlanTable.{empty_plan};

@@ -1,5 +1,6 @@
 // Bytes, numbers and lines written into a lent buffer from a place on, as far as it has room.
 #![tactic(auto)]
+
 ghost use Rattle.std.specs.Prelude.{[], ◌∷◌, map, ◌≤◌, ◌<◌, ◌+◌, ◌*◌, length};
 ghost use Rattle.spec_text.specs.Bytes.{bytes};
 ghost use Rattle.spec_text.specs.Decimal.{decimal};

@@ -1,6 +1,7 @@
 // How a run ends: the number and the line of its end, and its report, written into the lent buffer where there is room
 // for it.
 #![tactic(auto)]
+
 ghost use Rattle.std.specs.Prelude.{◌≡◌, [], ◌≤◌};
 ghost use Rattle.spec_format.specs.Faults.{number_of};
 ghost use Rattle.spec_report.specs.Report.{largest_number, end_number, end_line, end_entry};

@@ -1,6 +1,7 @@
 // The lines of the report, written into a lent buffer. Each function writes its bytes from a place on, as far as the
 // buffer has room, and answers the place behind them.
 #![tactic(auto)]
+
 ghost use Rattle.std.specs.Prelude.{◌≡◌, cond, [], ℕ, ◌≤◌, ◌<◌, ◌+◌, ◌*◌, pos, length, get_or, take};
 ghost use Rattle.spec_text.specs.Bytes.{bytes};
 ghost use Rattle.read_tables.specs.PlanTable.{sizes_in};

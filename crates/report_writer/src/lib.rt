@@ -1,5 +1,6 @@
 // A whole report, written into a lent buffer. It is measured first, by writing it where there is next to no room.
 #![tactic(auto)]
+
 ghost use Rattle.std.specs.Prelude.{[]};
 ghost use Rattle.step_cells.specs.Tables.{lent};
 ghost use Rattle.report_bytes.specs.Writes.{Writes};

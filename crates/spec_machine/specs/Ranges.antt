@@ -1,7 +1,7 @@
 -- The ranges of the machine's numbers: what it takes for them to fit the arrays and the small integers that a program
 -- keeps them in, and for every place that an item reads to be there. The crate spec_ranges shows them of every run.
 -- Assumes nothing.
-use Rattle.std.specs.Prelude.{ℕ, ◌≤◌, ◌<◌, ◌≡◌, ◌≢◌, true, List, [], ℤ, pos, negsuc, length, get_or}
+use Rattle.std.specs.Prelude.{ℕ, ◌≤◌, ◌<◌, ◌≡◌, ◌≢◌, true, ℤ, pos, negsuc, length, get_or}
 use Rattle.spec_format.specs.Plan.{Plan}
 use Rattle.spec_machine.specs.declared.Stage.{Stage}
 use Rattle.spec_machine.specs.declared.Place.{Place}

@@ -16,7 +16,7 @@ use Rattle.spec_text.specs.Lines.{lines, fields}
 use Rattle.spec_text.specs.Numbers.{number}
 use Rattle.spec_format.specs.declared.Entry.{Entry}
 use Rattle.spec_format.specs.declared.Form.{Form}
-use Rattle.spec_format.specs.Plan.{Plan, Listed, entries_in, blocks_written}
+use Rattle.spec_format.specs.Plan.{Plan, entries_in, blocks_written}
 use Rattle.spec_format.specs.Kinds.{kind_of}
 use Rattle.spec_format.specs.ParsedLines.{parsed_of}
 use Rattle.spec_format.specs.Reading.{Reading, refusal, accepted, reading}

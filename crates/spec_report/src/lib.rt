@@ -1,6 +1,7 @@
 // How a run ends. specs/ has the report, and what a text or a schedule of records comes to, as definitions; proofs/ has
 // the runs of document 01, computed. No code.
 #![tactic(auto)]
+
 use spec_format::Fault;
 use spec_machine::Refusal;
 

@@ -2,6 +2,7 @@
 // whose count is left out where it is one. A function that measures answers how many bytes the lines have; one that
 // writes puts them from a place on, where the buffer has room, and answers the place behind them.
 #![tactic(auto)]
+
 ghost use Rattle.std.specs.Prelude.{◌≡◌, ◌≤◌, ◌<◌, ◌+◌, ◌*◌, length};
 ghost use Rattle.spec_plan_text.specs.EntryLines.{entry_bytes, entry_line_bytes};
 ghost use Rattle.read_tables.specs.NoteTable.{note_at};

@@ -1,6 +1,7 @@
 // The single entries of a schedule joined into entry lines: "steps of one card that follow each other are joined into
 // the longest runs". The lines stand in a table of notes, as the entry lines of a text do.
 #![tactic(auto)]
+
 ghost use Rattle.std.specs.Prelude.{◌≤◌, ◌<◌, length, take, ◌≡◌};
 ghost use Rattle.read_tables.specs.NoteTable.{note_places, listed_in};
 ghost use Rattle.spec_format.specs.Plan.{entries_in};

@@ -2,6 +2,7 @@
 // answers how many bytes the lines have; one that writes puts them from a place on, where the buffer has room, and
 // answers the place behind them.
 #![tactic(auto)]
+
 ghost use Rattle.std.specs.Prelude.{◌≡◌, [], ◌∷◌, map, ◌≤◌, ◌<◌, ◌+◌, ◌*◌, length};
 ghost use Rattle.spec_text.specs.Decimal.{decimal};
 ghost use Rattle.spec_text.specs.WrittenLines.{fields_behind, line_of};

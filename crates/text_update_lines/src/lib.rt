@@ -1,5 +1,6 @@
 // The lines of updates and their moves, from a plan's table: how long they are, and written into a lent buffer.
 #![tactic(auto)]
+
 ghost use Rattle.std.specs.Prelude.{◌≡◌, ◌+◌, ◌≤◌, ◌<◌, length};
 ghost use Rattle.spec_format.specs.Sound.{Sound};
 ghost use Rattle.spec_plan_text.specs.PlanText.{move_line, update_lines, all_update_lines};

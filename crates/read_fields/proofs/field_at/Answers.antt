@@ -1,7 +1,6 @@
 -- `field_at` meets its contract, by what `find` and `number_of` ensure. Assumes nothing.
 use Prim.Native.Nat.{◌+◌}
 use mathlib.Core.Path.{◌≡◌, sym, ◌∙◌}
-use borrow.Author.Rules.{rules}
 use borrow.Author.Tests.{lt-ltb, le-ltb}
 use Rattle.read_fields.specs.FieldPlaces.{then_at, field_at}
 use Rattle.read_fields.proofs.field_at.Goals as goal

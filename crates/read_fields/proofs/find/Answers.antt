@@ -1,8 +1,7 @@
 -- `find` meets its contract. The loop's invariant: the byte looked for is the first at or after i. Assumes nothing.
-use Prim.Native.Nat.{◌+◌, ◌-◌, ◌≤◌, suc}
-use mathlib.Core.Path.{◌≡◌, refl, ap, ◌∙◌}
+use mathlib.Core.Path.{◌≡◌, ap, ◌∙◌}
 use native.Mathlib.Omega.{arith}
-use borrow.Author.Tests.{eq-eqb, ne_eqb}
+use borrow.Author.Tests.{eq-eqb}
 use lib.ListN.{length, drop}
 use lib.Seq.{drop-length}
 use Rattle.read_fields.proofs.FieldPlaces.{drop-next}

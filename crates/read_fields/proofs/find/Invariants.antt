@@ -1,11 +1,7 @@
-use Prim.Native.Nat.{◌+◌, ◌-◌, ◌≤◌, suc}
-use mathlib.Core.Path.{◌≡◌, refl, ap, ◌∙◌}
-use native.Mathlib.Omega.{arith}
-use borrow.Author.Tests.{eq-eqb, ne_eqb}
+use Prim.Native.Nat.{◌+◌, ◌-◌, ◌≤◌}
+use mathlib.Core.Path.{◌≡◌}
 use lib.ListN.{length, drop}
-use lib.Seq.{drop-length}
-use Rattle.read_fields.proofs.FieldPlaces.{drop-next}
-use Rattle.read_fields.specs.FieldPlaces.{before, place_of}
+use Rattle.read_fields.specs.FieldPlaces.{before}
 use Rattle.read_fields.proofs.find.Given as goal
 
 abbrev pub invariant-loop-i : goal.invariant-loop-i

@@ -1,7 +1,6 @@
 -- `number_of` meets its contract: its tests are those of a number's first byte. Assumes nothing.
 use mathlib.Core.Path.{sym, ◌∙◌}
 use native.Mathlib.Omega.{arith}
-use borrow.Author.Rules.{rules}
 use borrow.Author.Tests.{eq-eqb, ne_eqb}
 use Rattle.read_fields.proofs.Scanned.{number-scanned, number-bad, leads-none, leads_one, leads-more}
 use Rattle.read_fields.proofs.number_of.Goals as goal

@@ -1,14 +1,11 @@
 -- `read_numbers` meets its contract. The loop's invariant: the numbers kept, with those from the place on, are all.
 -- Assumes nothing.
-use Prim.Native.Nat.{suc, ◌+◌, ◌-◌, ◌≤◌}
-use mathlib.Core.Path.{◌≡◌, refl, sym, ◌∙◌}
-use native.Mathlib.Nat.{sub-zero}
+use Prim.Native.Nat.{suc, ◌+◌, ◌-◌}
+use mathlib.Core.Path.{◌≡◌, sym, ◌∙◌}
 use native.Mathlib.Omega.{arith}
-use borrow.Author.Rules.{rules}
 use lib.ListN.{length, take, length-set}
-use Rattle.read_fields.proofs.NumbersRead.{joined, joined-none, read-value, read-bad, read-on, read_all, read-over}
-use Rattle.spec_text.specs.Lines.{numbers}
-use Rattle.read_fields.specs.FieldPlaces.{field_at, fields_at}
+use Rattle.read_fields.proofs.NumbersRead.{read-value, read-bad, read-on, read_all, read-over}
+use Rattle.read_fields.specs.FieldPlaces.{field_at}
 use Rattle.read_fields.specs.declared.Field.{Field}
 use Rattle.read_fields.proofs.read_numbers.Goals as goal
 

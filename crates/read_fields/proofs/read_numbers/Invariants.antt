@@ -1,13 +1,9 @@
-use Prim.Native.Nat.{suc, ◌+◌, ◌-◌, ◌≤◌}
-use mathlib.Core.Path.{◌≡◌, refl, sym, ◌∙◌}
-use native.Mathlib.Nat.{sub-zero}
-use native.Mathlib.Omega.{arith}
-use borrow.Author.Rules.{rules}
-use lib.ListN.{length, take, length-set}
-use Rattle.read_fields.proofs.NumbersRead.{joined, joined-none, read-value, read-bad, read-on, read_all, read-over}
+use Prim.Native.Nat.{◌+◌, ◌-◌, ◌≤◌}
+use mathlib.Core.Path.{◌≡◌}
+use lib.ListN.{length, take}
+use Rattle.read_fields.proofs.NumbersRead.{joined}
 use Rattle.spec_text.specs.Lines.{numbers}
-use Rattle.read_fields.specs.FieldPlaces.{field_at, fields_at}
-use Rattle.read_fields.specs.declared.Field.{Field}
+use Rattle.read_fields.specs.FieldPlaces.{fields_at}
 use Rattle.read_fields.proofs.read_numbers.Given as goal
 
 abbrev pub invariant-loop-i : goal.invariant-loop-i

@@ -1,12 +1,10 @@
 -- `line_in` meets its contract. The loop's invariant: the single entries of the notes passed so far, and those left to
 -- pass, are the entries before the one looked for. Assumes nothing.
-use Prim.Native.Nat.{◌+◌, ◌-◌, ◌≤◌}
-use mathlib.Core.Path.{◌≡◌, sym, ◌∙◌, ap}
+use mathlib.Core.Path.{sym, ◌∙◌, ap}
 use native.Mathlib.Omega.{arith}
-use lib.ListN.{length}
 use Rattle.spec_report.specs.Outcomes.{line_in}
 use Rattle.read_tables.specs.NoteTable.{listed_in}
-use Rattle.read_single_entries.proofs.SingleEntries.{one_more, line-there, line-past}
+use Rattle.read_single_entries.proofs.SingleEntries.{line-there}
 use Rattle.read_single_entries.proofs.line_in.Goals as goal
 
 pub returns-then-left-times : goal.returns-then-left-times

@@ -1,10 +1,7 @@
 use Prim.Native.Nat.{◌+◌, ◌-◌, ◌≤◌}
-use mathlib.Core.Path.{◌≡◌, sym, ◌∙◌, ap}
-use native.Mathlib.Omega.{arith}
+use mathlib.Core.Path.{◌≡◌}
 use lib.ListN.{length}
-use Rattle.spec_report.specs.Outcomes.{line_in}
 use Rattle.read_tables.specs.NoteTable.{listed_in}
-use Rattle.read_single_entries.proofs.SingleEntries.{one_more, line-there, line-past}
 use Rattle.read_single_entries.proofs.line_in.Given as goal
 
 abbrev pub invariant-loop-k : goal.invariant-loop-k

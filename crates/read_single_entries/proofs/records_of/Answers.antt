@@ -1,13 +1,12 @@
 -- `records_of` gives the single entries of the first n notes. The outer loop's invariant: there are 4,000 records, and
 -- the first ones are the single entries of the notes so far. The inner loop's: behind those, the entry of the present
 -- note stands as many times as turns so far. Assumes nothing.
-use Prim.Native.Nat.{ℕ, suc, ◌+◌, ◌-◌, ◌≤◌, ◌<◌}
-use mathlib.Core.Path.{◌≡◌, refl, sym, ◌∙◌, subst}
-use mathlib.Core.List.{List, ◌++◌, append-nil}
+use Prim.Native.Nat.{ℕ, suc, ◌+◌, ◌≤◌, ◌<◌}
+use mathlib.Core.Path.{◌≡◌, sym, ◌∙◌}
+use mathlib.Core.List.{List, ◌++◌}
 use native.Mathlib.Nat.{le_antisymm}
 use native.Mathlib.Omega.{arith}
-use lib.ListN.{length, take, replicate, length-set}
-use Rattle.spec_format.specs.declared.Entry.{Entry}
+use lib.ListN.{length, replicate, length-set}
 use Rattle.read_tables.specs.NoteTable.{note_at, listed_in}
 use Rattle.spec_format.specs.Plan.{entries_in}
 use Rattle.read_single_entries.proofs.SingleEntries.{one_more, no-fewer, records-more, record-put}
@@ -17,7 +16,7 @@ pub bounds-records-at : goal.bounds-records-at
 bounds-records-at c =
     let notes : List ℕ = c.args.notes.now in
     let ends : c.loop-i.at + c.times_at.result ≡ length (listed_in (c.loop-i.i + 1) (notes)) = omega (arith, c.loop-i.invariant.2, c.times_at.ensures, one_more (notes) c.loop-i.i) in
-    let fits : c.loop-i.at + c.times_at.result ≤ 4000 =     omega (
+    let fits : c.loop-i.at + c.times_at.result ≤ 4000 = omega (
       arith,
       ends,
       c.requires.1,
@@ -30,7 +29,7 @@ pub loop-at-preserved : goal.loop-at-preserved
 loop-at-preserved c =
     let notes : List ℕ = c.args.notes.now in
     let ends : c.loop-i.at + c.times_at.result ≡ length (listed_in (c.loop-i.i + 1) (notes)) = omega (arith, c.loop-i.invariant.2, c.times_at.ensures, one_more (notes) c.loop-i.i) in
-    let fits : c.loop-i.at + c.times_at.result ≤ 4000 =     omega (
+    let fits : c.loop-i.at + c.times_at.result ≤ 4000 = omega (
       arith,
       ends,
       c.requires.1,
@@ -39,7 +38,7 @@ loop-at-preserved c =
     let inside : c.loop-at.at < 4000 = omega (arith, c.loop-at-test.true, fits) in
     let l = c.loop-at in
     let f = l.invariant.2 in
-        let e = c.entry_at-e.result in (
+    let e = c.entry_at-e.result in (
       omega (arith, c.loop-at-test.true),
       suc l.invariant.1,
       record {

@@ -1,13 +1,10 @@
-use Prim.Native.Nat.{ℕ, suc, ◌+◌, ◌-◌, ◌≤◌, ◌<◌}
-use mathlib.Core.Path.{◌≡◌, refl, sym, ◌∙◌, subst}
-use mathlib.Core.List.{List, ◌++◌, append-nil}
-use native.Mathlib.Nat.{le_antisymm}
-use native.Mathlib.Omega.{arith}
-use lib.ListN.{length, take, replicate, length-set}
+use Prim.Native.Nat.{ℕ, ◌+◌, ◌-◌, ◌≤◌}
+use mathlib.Core.Path.{◌≡◌}
+use mathlib.Core.List.{List, ◌++◌}
+use lib.ListN.{length, take, replicate}
 use Rattle.spec_format.specs.declared.Entry.{Entry}
-use Rattle.read_tables.specs.NoteTable.{note_at, listed_in}
+use Rattle.read_tables.specs.NoteTable.{listed_in}
 use Rattle.spec_format.specs.Plan.{entries_in}
-use Rattle.read_single_entries.proofs.SingleEntries.{one_more, no-fewer, records-more, record-put}
 use Rattle.read_single_entries.proofs.records_of.Given as goal
 
 -- The first records are the single entries of the first i notes, and behind them an entry stands k times.

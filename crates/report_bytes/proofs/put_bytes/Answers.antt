@@ -1,13 +1,12 @@
 -- `put_bytes` writes byte after byte. Assumes nothing.
-use Prim.Native.Nat.{ℕ, ◌-◌, ◌*◌, ◌≤◌}
+use Prim.Native.Nat.{ℕ}
 use mathlib.Core.Path.{◌≡◌, refl, sym, ◌∙◌}
 use mathlib.Core.List.{List, [], ◌∷◌, append-nil}
 use native.Mathlib.Omega.{arith}
-use lib.ListN.{length, get_or}
+use lib.ListN.{length}
 use lib.Seq.{take_all}
 use Rattle.spec_report.specs.Report.{joined}
-use Rattle.report_bytes.specs.Writes.{Writes}
-use Rattle.report_bytes.proofs.Writes.{nothing, once_more, widen, renamed, keeps}
+use Rattle.report_bytes.proofs.Writes.{nothing, once_more, widen, renamed}
 use Rattle.report_bytes.proofs.LoopParts.{joined_of}
 use Rattle.report_bytes.proofs.put_bytes.Goals as goal
 use Rattle.report_bytes.proofs.put_bytes.Invariants.{one}

@@ -1,13 +1,8 @@
 use Prim.Native.Nat.{ℕ, ◌-◌, ◌*◌, ◌≤◌}
-use mathlib.Core.Path.{◌≡◌, refl, sym, ◌∙◌}
-use mathlib.Core.List.{List, [], ◌∷◌, append-nil}
-use native.Mathlib.Omega.{arith}
+use mathlib.Core.List.{List, [], ◌∷◌}
 use lib.ListN.{length, get_or}
-use lib.Seq.{take_all}
 use Rattle.spec_report.specs.Report.{joined}
 use Rattle.report_bytes.specs.Writes.{Writes}
-use Rattle.report_bytes.proofs.Writes.{nothing, once_more, widen, renamed, keeps}
-use Rattle.report_bytes.proofs.LoopParts.{joined_of}
 use Rattle.report_bytes.proofs.put_bytes.Given as goal
 
 -- The byte at a place.

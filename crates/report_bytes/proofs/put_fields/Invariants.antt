@@ -1,15 +1,9 @@
-use Prim.Native.Nat.{ℕ, ◌+◌, ◌-◌, ◌*◌, ◌≤◌}
-use mathlib.Core.Path.{◌≡◌, refl, ◌∙◌}
-use mathlib.Core.List.{List, [], ◌∷◌, ◌++◌, map}
-use native.Mathlib.Omega.{arith}
+use Prim.Native.Nat.{ℕ, ◌-◌, ◌*◌, ◌≤◌}
+use mathlib.Core.List.{List, ◌∷◌}
 use lib.ListN.{length, get_or}
-use lib.Seq.{take_all}
 use Rattle.spec_text.specs.Decimal.{decimal}
-use Rattle.spec_text.specs.WrittenLines.{fields_behind}
 use Rattle.spec_report.specs.Report.{joined}
 use Rattle.report_bytes.specs.Writes.{Writes}
-use Rattle.report_bytes.proofs.Writes.{nothing, then, once_more, widen, renamed, keeps}
-use Rattle.report_bytes.proofs.LoopParts.{joined_of}
 use Rattle.report_bytes.proofs.put_fields.Given as goal
 
 -- The field at a place, behind its tab.

@@ -1,21 +1,19 @@
 -- `blocks_length` adds up the lengths of the block lines. Assumes nothing.
-use Prim.Native.Nat.{◌-◌, ◌*◌, ◌≤◌}
-use mathlib.Core.Path.{◌≡◌, ap, ◌∙◌}
+use mathlib.Core.Path.{◌≡◌, ap}
 use native.Mathlib.Omega.{arith}
-use borrow.Author.Rules.{rules}
 use lib.ListN.{length}
-use Rattle.spec_format.specs.declared.Sizes.{Sizes}
-use Rattle.spec_report.specs.Report.{joined}
 use Rattle.spec_plan_text.specs.PlanText.{block_line}
-use Rattle.read_tables.specs.PlanTable.{sizes_in, plan_in}
+use Rattle.read_tables.specs.PlanTable.{plan_in}
 use Rattle.text_lines.proofs.JoinedLines.{joined-length-more}
-use Rattle.text_plan_lines.proofs.TableLines.{placed, block-line}
+use Rattle.text_plan_lines.proofs.TableLines.{block-line}
 use Rattle.text_plan_lines.proofs.blocks_length.Goals as goal
 
 pub loop-b-preserved : goal.loop-b-preserved
 loop-b-preserved c =
-    let measured :     c.part_length-length.result ≡ length (block_line (plan_in c.args.plan.now) c.loop-b.b) =             let is = block-line c.args.plan.now c.requires c.sizes-sizes.result c.sizes-sizes.ensures c.loop-b.b (omega arith)
-    in
+    let t = c.args.plan.now in
+    let z = c.sizes-sizes in
+    let is = block-line t c.requires z.result z.ensures c.loop-b.b (omega arith) in
+    let measured : c.part_length-length.result ≡ length (block_line (plan_in t) c.loop-b.b) =
     omega (arith, c.part_length-length.ensures.value, ap length is) in
-    let more = joined-length-more c.loop-b.b (block_line (plan_in c.args.plan.now)) in
+    let more = joined-length-more c.loop-b.b (block_line (plan_in t)) in
     (omega arith, (omega (arith, measured, more), omega (arith, c.part_length-length.ensures.upper_bound)))

@@ -1,14 +1,9 @@
 use Prim.Native.Nat.{◌-◌, ◌*◌, ◌≤◌}
-use mathlib.Core.Path.{◌≡◌, ap, ◌∙◌}
-use native.Mathlib.Omega.{arith}
-use borrow.Author.Rules.{rules}
+use mathlib.Core.Path.{◌≡◌}
 use lib.ListN.{length}
-use Rattle.spec_format.specs.declared.Sizes.{Sizes}
 use Rattle.spec_report.specs.Report.{joined}
 use Rattle.spec_plan_text.specs.PlanText.{block_line}
-use Rattle.read_tables.specs.PlanTable.{sizes_in, plan_in}
-use Rattle.text_lines.proofs.JoinedLines.{joined-length-more}
-use Rattle.text_plan_lines.proofs.TableLines.{placed, block-line}
+use Rattle.read_tables.specs.PlanTable.{plan_in}
 use Rattle.text_plan_lines.proofs.blocks_length.Given as goal
 
 abbrev pub invariant-loop-b : goal.invariant-loop-b

@@ -1,14 +1,9 @@
 -- `jobs_length` adds up the lengths of the job lines. Assumes nothing.
-use Prim.Native.Nat.{ℕ, ◌-◌, ◌*◌, ◌≤◌, ◌<◌}
-use mathlib.Core.Path.{◌≡◌, sym, ap, ◌∙◌}
-use mathlib.Core.List.{List}
+use Prim.Native.Nat.{◌≤◌, ◌<◌}
+use mathlib.Core.Path.{◌≡◌, ap}
 use native.Mathlib.Omega.{arith}
-use borrow.Author.Rules.{rules}
 use lib.ListN.{length}
-use Rattle.spec_format.specs.Plan.{job_in}
-use Rattle.spec_report.specs.Report.{joined}
-use Rattle.spec_plan_text.specs.PlanText.{job_line}
-use Rattle.read_tables.specs.PlanTable.{sizes_in, plan_in}
+use Rattle.read_tables.specs.PlanTable.{sizes_in}
 use Rattle.text_lines.proofs.JoinedLines.{joined-length-more}
 use Rattle.text_plan_lines.proofs.TableLines.{job-line}
 use Rattle.text_plan_lines.proofs.jobs_length.Goals as goal
@@ -16,8 +11,8 @@ use Rattle.text_plan_lines.proofs.jobs_length.Invariants.{line}
 
 pub loop-k-preserved : goal.loop-k-preserved
 loop-k-preserved c =
-    let measured :     (c.line_length-length.result ≡ length (line c.args.plan.now c.loop-k.k))
-    × (c.line_length-length.result ≤ 36) =         let ns = c.job_numbers-numbers.result in
+    let measured : (c.line_length-length.result ≡ length (line c.args.plan.now c.loop-k.k))
+    × (c.line_length-length.result ≤ 36) = let ns = c.job_numbers-numbers.result in
     let few : c.loop-k.k < (sizes_in c.args.plan.now).jobs = omega (arith, c.jobs-jobs.ensures) in
     let is = job-line c.args.plan.now c.loop-k.k few ns c.job_numbers-numbers.ensures in (
       omega (arith, c.line_length-length.ensures.value, ap length is),

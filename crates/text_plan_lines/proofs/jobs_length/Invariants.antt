@@ -1,15 +1,11 @@
-use Prim.Native.Nat.{ℕ, ◌-◌, ◌*◌, ◌≤◌, ◌<◌}
-use mathlib.Core.Path.{◌≡◌, sym, ap, ◌∙◌}
+use Prim.Native.Nat.{ℕ, ◌-◌, ◌*◌, ◌≤◌}
+use mathlib.Core.Path.{◌≡◌}
 use mathlib.Core.List.{List}
-use native.Mathlib.Omega.{arith}
-use borrow.Author.Rules.{rules}
 use lib.ListN.{length}
 use Rattle.spec_format.specs.Plan.{job_in}
 use Rattle.spec_report.specs.Report.{joined}
 use Rattle.spec_plan_text.specs.PlanText.{job_line}
-use Rattle.read_tables.specs.PlanTable.{sizes_in, plan_in}
-use Rattle.text_lines.proofs.JoinedLines.{joined-length-more}
-use Rattle.text_plan_lines.proofs.TableLines.{job-line}
+use Rattle.read_tables.specs.PlanTable.{plan_in}
 use Rattle.text_plan_lines.proofs.jobs_length.Given as goal
 
 -- The line of job k.

@@ -2,15 +2,14 @@
 use Prim.Native.Nat.{ℕ, ◌+◌}
 use mathlib.Core.Path.{ap, ◌∙◌}
 use mathlib.Core.List.{List, map}
-use native.Mathlib.Omega.{arith}
-use borrow.Author.Rules.{rules}
-use lib.ListN.{length, get_or}
+use lib.ListN.{length}
 use Rattle.spec_text.specs.Decimal.{decimal}
 use Rattle.spec_text.specs.WrittenLines.{fields_behind}
-use Rattle.spec_format.proofs.Tabulated.{length-tabulate}
 use Rattle.text_plan_lines.proofs.TableLines.{part-is}
-use borrow.Author.Rules.{rules}
 use Rattle.text_plan_lines.proofs.part_length.Goals as goal
 
 pub returns-clause-value : goal.returns-clause-value
-returns-clause-value c =         let numbers = part-is c.args.table.now c.args.from c.args.n c.requires.1.1 in c.line_length.ensures.value ∙ ap (λ (ns : List ℕ). c.args.first + length (fields_behind (map decimal ns))) numbers
+returns-clause-value c =
+    let numbers = part-is c.args.table.now c.args.from c.args.n c.requires.1.1 in
+    c.line_length.ensures.value
+    ∙ ap (λ (ns : List ℕ). c.args.first + length (fields_behind (map decimal ns))) numbers

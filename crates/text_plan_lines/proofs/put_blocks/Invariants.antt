@@ -1,22 +1,14 @@
-use Prim.Native.Nat.{◌-◌, ◌≤◌, ◌<◌}
-use mathlib.Core.Path.{◌≡◌, refl, ap}
-use native.Mathlib.Omega.{arith}
-use borrow.Author.Rules.{rules}
-use lib.ListN.{length}
-use Rattle.spec_format.specs.declared.Sizes.{Sizes}
+use Prim.Native.Nat.{◌-◌, ◌≤◌}
 use Rattle.spec_report.specs.Report.{joined}
 use Rattle.spec_plan_text.specs.PlanText.{block_line}
-use Rattle.read_tables.specs.PlanTable.{sizes_in, plan_in}
+use Rattle.read_tables.specs.PlanTable.{plan_in}
 use Rattle.text_lines.specs.Fills.{Fills}
-use Rattle.text_lines.proofs.Fills.{keeps, renamed, nothing, once_more}
-use Rattle.text_lines.proofs.JoinedLines.{part_room}
-use Rattle.text_plan_lines.proofs.TableLines.{placed, block-line}
 use Rattle.text_plan_lines.proofs.put_blocks.Given as goal
 
 abbrev pub invariant-loop-b : goal.invariant-loop-b
 invariant-loop-b l =
-    (b ≤ l.blocks) × Fills (joined b (block_line (plan_in l.plan))) l.at l.initial.buffer l.b l.next
+    (l.b ≤ l.blocks) × Fills (joined l.b (block_line (plan_in l.plan))) l.at l.initial.buffer l.next l.buffer
 
 abbrev pub decreases-loop-b : goal.decreases-loop-b
 decreases-loop-b l =
-    l.blocks - b
+    l.blocks - l.b

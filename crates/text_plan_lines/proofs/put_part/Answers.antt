@@ -1,23 +1,16 @@
 -- `put_part` writes a line whose numbers stand in a table. Assumes nothing.
-use Prim.Native.Nat.{◌+◌}
 use mathlib.Core.Path.{ap}
-use native.Mathlib.Omega.{arith}
-use borrow.Author.Rules.{rules}
-use lib.ListN.{get_or}
 use Rattle.spec_text.specs.WrittenLines.{line_of}
-use Rattle.spec_format.proofs.Tabulated.{length-tabulate}
 use Rattle.text_lines.proofs.Fills.{renamed}
 use Rattle.text_plan_lines.proofs.TableLines.{part-is}
-use borrow.Author.Rules.{rules}
 use Rattle.text_plan_lines.proofs.put_part.Goals as goal
 
 pub put_line-requires-clause-numbers_in_bounds : goal.put_line-requires-clause-numbers_in_bounds
 put_line-requires-clause-numbers_in_bounds c =
-    let many = length-tabulate c.args.n (λ i. get_or c.args.table.now (c.args.from + i) 0) in
-    rw (part-is c.args.table.now c.args.from c.args.n c.requires.first_len_bound.1.1)
-    ((omega (arith, c.requires.first_len_bound.0), omega (arith, many, c.requires.first_len_bound.1.0)), c.requires.n_in_bounds)
+    rw (part-is c.args.table.now c.args.from c.args.n c.requires.first_len_bound.1.1) c.requires.n_in_bounds
 
 pub returns : goal.returns
 returns c =
-    renamed _ (ap (line_of c.args.first.now) (part-is c.args.table.now c.args.from c.args.n c.requires.first_len_bound.1.1))
+    let numbers = part-is c.args.table.now c.args.from c.args.n c.requires.first_len_bound.1.1 in
+    renamed _ (ap (line_of c.args.first.now) numbers)
     c.put_line.ensures

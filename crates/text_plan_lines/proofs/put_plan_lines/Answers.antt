@@ -1,13 +1,9 @@
 -- `put_plan_lines` writes the lines before the updates one behind the other. Assumes nothing.
 use mathlib.Core.List.{append_assoc}
-use native.Mathlib.Omega.{arith}
-use borrow.Author.Rules.{rules}
 use Rattle.spec_plan_text.specs.PlanText.{plan_line, job_lines, opening_block_lines}
 use Rattle.read_tables.specs.PlanTable.{plan_in}
-use Rattle.text_lines.proofs.Fills.{keeps, renamed, then}
+use Rattle.text_lines.proofs.Fills.{renamed, then}
 use Rattle.text_plan_lines.specs.BeforeUpdates.{before_updates}
-use Rattle.text_plan_lines.proofs.TableLines.{before-length}
-use borrow.Author.Rules.{rules}
 use Rattle.text_plan_lines.proofs.put_plan_lines.Goals as goal
 
 pub returns : goal.returns

@@ -1,15 +1,7 @@
-use Prim.Native.Nat.{◌+◌, ◌-◌, ◌≤◌}
-use mathlib.Core.Path.{◌≡◌, sym, ap}
-use native.Mathlib.Omega.{arith}
-use borrow.Author.Rules.{rules}
-use lib.ListN.{length}
-use Rattle.spec_plan_text.specs.PlanText.{move_line}
-use Rattle.read_tables.specs.PlanTable.{count_at}
+use Prim.Native.Nat.{◌-◌, ◌≤◌}
 use Rattle.spec_report.specs.Report.{joined}
 use Rattle.text_lines.specs.Fills.{Fills}
-use Rattle.text_lines.proofs.Fills.{keeps, renamed, then, nothing, once_more}
-use Rattle.text_lines.proofs.JoinedLines.{next-room}
-use Rattle.text_update_lines.proofs.UpdateLines.{update_line, move_line_at, update-is, update-length}
+use Rattle.text_update_lines.proofs.UpdateLines.{move_line_at}
 use Rattle.text_update_lines.proofs.put_update.Given as goal
 
 abbrev pub invariant-loop-i : goal.invariant-loop-i

@@ -1,14 +1,7 @@
-use Prim.Native.Nat.{◌+◌, ◌-◌, ◌≤◌, ◌<◌}
-use mathlib.Core.Path.{◌≡◌, sym, ap}
-use native.Mathlib.Omega.{arith}
-use borrow.Author.Rules.{rules}
-use lib.ListN.{length}
+use Prim.Native.Nat.{◌-◌, ◌≤◌}
 use Rattle.spec_report.specs.Report.{joined}
-use Rattle.read_tables.specs.PlanTable.{updates_in}
 use Rattle.text_lines.specs.Fills.{Fills}
-use Rattle.text_lines.proofs.Fills.{keeps, renamed, nothing, once_more}
-use Rattle.text_lines.proofs.JoinedLines.{next-room}
-use Rattle.text_update_lines.proofs.UpdateLines.{update_lines_at, all_are, few_updates, few_moves}
+use Rattle.text_update_lines.proofs.UpdateLines.{update_lines_at}
 use Rattle.text_update_lines.proofs.put_updates.Given as goal
 
 abbrev pub invariant-loop-u : goal.invariant-loop-u

@@ -1,10 +1,8 @@
 -- `updates_length` adds up the lengths of the lines of each update. Assumes nothing.
-use Prim.Native.Nat.{◌-◌, ◌*◌, ◌≤◌}
+use Prim.Native.Nat.{◌≤◌}
 use mathlib.Core.Path.{◌≡◌, sym, ap, ◌∙◌}
 use native.Mathlib.Omega.{arith}
-use borrow.Author.Rules.{rules}
 use lib.ListN.{length}
-use Rattle.spec_report.specs.Report.{joined}
 use Rattle.read_tables.specs.PlanTable.{updates_in}
 use Rattle.text_lines.proofs.JoinedLines.{joined-length-more}
 use Rattle.text_update_lines.proofs.UpdateLines.{update_lines_at, all_are, few_updates, few_moves}

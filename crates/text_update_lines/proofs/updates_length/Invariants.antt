@@ -1,12 +1,8 @@
 use Prim.Native.Nat.{◌-◌, ◌*◌, ◌≤◌}
-use mathlib.Core.Path.{◌≡◌, sym, ap, ◌∙◌}
-use native.Mathlib.Omega.{arith}
-use borrow.Author.Rules.{rules}
+use mathlib.Core.Path.{◌≡◌}
 use lib.ListN.{length}
 use Rattle.spec_report.specs.Report.{joined}
-use Rattle.read_tables.specs.PlanTable.{updates_in}
-use Rattle.text_lines.proofs.JoinedLines.{joined-length-more}
-use Rattle.text_update_lines.proofs.UpdateLines.{update_lines_at, all_are, few_updates, few_moves}
+use Rattle.text_update_lines.proofs.UpdateLines.{update_lines_at}
 use Rattle.text_update_lines.proofs.updates_length.Given as goal
 
 abbrev pub invariant-loop-u : goal.invariant-loop-u
