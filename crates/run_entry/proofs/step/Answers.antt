@@ -18,8 +18,11 @@ carry_out-requires c =
 
 pub returns : goal.returns
 returns c =
-    stepped c.args.plan.now c.args.p c.args.w c.item-effect.result _ _ _
-    (omega (arith, c.requires.ready.plan.job, c.requires.ready.plan.jobs)) c.requires.whole (c.item-effect.ensures.by_index _)
-    c.item-effect.ensures.change_inside c.carry_out.ensures.carried c.carry_out.ensures.commits_after c.carry_out.ensures.whole
+    let k = c.requires in
+    let i = c.item-effect in
+    let o = c.carry_out.ensures in
+    stepped c.args.plan.now c.args.p c.args.w i.result _ _ _
+    (omega (arith, k.ready.plan.job, k.ready.plan.jobs)) k.whole (i.ensures.by_index _)
+    i.ensures.change_inside o.carried o.commits_after o.whole
     (record { stat = refl; store = refl; addr = refl; old = refl; new = refl; commits = refl })
     c.count_entry.ensures
