@@ -1,17 +1,29 @@
 -- `carry_out` has one arm for each kind of change, and its law. Assumes nothing.
-use Prim.Native.Nat.{◌+◌, ◌*◌, ◌≤◌}
 use mathlib.Core.Path.{◌≡◌}
 use native.Mathlib.Omega.{arith}
 use lib.IntN.{pos}
-use lib.ListN.{length-set}
 use mir.Syntax.{w32}
 use mir.Val.{to_z}
 use mir.ValLaws.{to_z-of_z}
 use Rattle.read_tables.specs.PlanTable.{sizes_in}
-use Rattle.step_cells.proofs.StoreRoom.{block_inside}
 use Rattle.run_changes.proofs.CopiedWords.{block-after}
-use Rattle.run_carry_out.proofs.Carrying.{low, nothing-done, version-done, announced-done, returned-done, pending_done, trans-done, listed-done, block-done, word-done, published-done, bank-done, cleared-done, decided-done, commit-done}
-use borrow.Author.Rules.{rules}
+use Rattle.run_carry_out.proofs.Carrying.{
+  low,
+  nothing-done,
+  version-done,
+  announced-done,
+  returned-done,
+  pending_done,
+  trans-done,
+  listed-done,
+  block-done,
+  word-done,
+  published-done,
+  bank-done,
+  cleared-done,
+  decided-done,
+  commit-done,
+}
 use Rattle.run_carry_out.proofs.carry_out.Goals as goal
 
 pub copy_words-requires-clause-words_bound : goal.copy_words-requires-clause-words_bound
@@ -151,7 +163,8 @@ returns-in-Cleared-clause-commits_after c =
 pub returns-in-Decided-clause-carried : goal.returns-in-Decided-clause-carried
 returns-in-Decided-clause-carried c =
     let a = rw c.in-Decided.is at c.requires in
-    let status : to_z w32 c.args.p ≡ pos c.args.p = to_z-of_z w32 (pos c.args.p) (record { sfits = omega (arith, low a) }) in
+    let status : to_z w32 c.args.p ≡ pos c.args.p =
+    to_z-of_z w32 (pos c.args.p) (record { sfits = omega (arith, low a) }) in
     rw (c.in-Decided.is, c.put_status-in-Decided.ensures, status)
     ((decided-done _ _ _ _ _ _ c.decide.ensures a).0)
 
@@ -164,7 +177,8 @@ pub returns-in-Commit-clause-carried : goal.returns-in-Commit-clause-carried
 returns-in-Commit-clause-carried c =
     let a = rw c.in-Commit.is at c.requires in
     let jobs = (sizes_in c.args.plan.now).jobs in
-    let status : to_z w32 jobs ≡ pos jobs = to_z-of_z w32 (pos jobs) (record { sfits = omega (arith, a.plan.jobs) }) in
+    let status : to_z w32 jobs ≡ pos jobs =
+    to_z-of_z w32 (pos jobs) (record { sfits = omega (arith, a.plan.jobs) }) in
     rw (
       c.in-Commit.is,
       c.add_commit.ensures.cells_after,

@@ -10,7 +10,7 @@ use Rattle.step_cells.specs.declared.Registers.{Registers}
 use Rattle.step_cells.specs.CellTable.{other_at}
 use Rattle.step_cells.specs.Tables.{Tables, lent, idle, machine_of}
 use Rattle.step_cells.specs.Book.{book_of}
-use Rattle.step_cells.proofs.Books.{OnlyCells, with-cells, only-cells}
+use Rattle.step_cells.proofs.Books.{with-cells, only-cells}
 use Rattle.run_judge.specs.declared.Ruling.{Ruling}
 use Rattle.run_judge.specs.Rulings.{changed_by}
 use Rattle.run_entry.specs.Acting.{Judged, Kept, Acts}

@@ -1,10 +1,6 @@
 -- `call` meets its contract. Assumes nothing.
-use Prim.Native.Nat.{◌<◌}
-use mathlib.Core.Path.{refl, sym, subst}
 use native.Mathlib.Omega.{arith}
-use lib.ListN.{length-set}
-use Rattle.run_entry.proofs.Calls.{entries-kept, called-so}
-use borrow.Author.Rules.{rules}
+use Rattle.run_entry.proofs.Calls.{called-so}
 use Rattle.run_entry.proofs.call.Goals as goal
 
 pub returns-clause-called : goal.returns-clause-called

@@ -1,10 +1,7 @@
 -- `step` meets its contract. Assumes nothing.
-use mathlib.Core.Path.{refl, ◌∙◌, ap}
+use mathlib.Core.Path.{refl}
 use native.Mathlib.Omega.{arith}
-use Rattle.step_cells.specs.Book.{Book}
-use Rattle.run_entry.proofs.Acts.{leaves}
 use Rattle.run_entry.proofs.Stepping.{stepped}
-use borrow.Author.Rules.{rules}
 use Rattle.run_entry.proofs.step.Goals as goal
 
 pub carry_out-requires : goal.carry_out-requires
@@ -21,8 +18,11 @@ carry_out-requires c =
 
 pub returns : goal.returns
 returns c =
-    stepped c.args.plan.now c.args.p c.args.w c.item-effect.result _ _ _
-    (omega (arith, c.requires.ready.plan.job, c.requires.ready.plan.jobs)) c.requires.whole (c.item-effect.ensures.by_index _)
-    c.item-effect.ensures.change_inside c.carry_out.ensures.carried c.carry_out.ensures.commits_after c.carry_out.ensures.whole
+    let k = c.requires in
+    let i = c.item-effect in
+    let o = c.carry_out.ensures in
+    stepped c.args.plan.now c.args.p c.args.w i.result _ _ _
+    (omega (arith, k.ready.plan.job, k.ready.plan.jobs)) k.whole (i.ensures.by_index _)
+    i.ensures.change_inside o.carried o.commits_after o.whole
     (record { stat = refl; store = refl; addr = refl; old = refl; new = refl; commits = refl })
     c.count_entry.ensures

@@ -1,8 +1,6 @@
 -- `item` is the item of a job by its place. Assumes nothing.
-use mathlib.Core.Path.{refl}
-use Rattle.step_list.proofs.ItemAtPlace.{at_place, ready_at, idle-does}
+use Rattle.step_list.proofs.ItemAtPlace.{at_place, idle-does}
 use Rattle.step_cells.specs.Tables.{lent}
-use borrow.Author.Rules.{rules}
 use Rattle.step_list.proofs.item.Goals as goal
 
 pub returns-in-Idle-clause-by_index : goal.returns-in-Idle-clause-by_index
