@@ -4,4 +4,4 @@ use Rattle.report_writer.proofs.Fitting.{all-written}
 use Rattle.report_writer.proofs.write_report.Goals as goal
 
 pub returns : goal.returns
-returns c = all-written c.put_report-length.ensures c.put_report.ensures (omega (arith, c.if-buffer-length.false))
+returns c = all-written c.put_report-length.ensures c.put_report.ensures (omega arith)
