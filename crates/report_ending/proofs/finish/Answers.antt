@@ -1,6 +1,5 @@
 -- `finish` meets its contract. Assumes nothing.
 use Rattle.report_ending.proofs.WrittenOut.{written-whole, written_none}
-use borrow.Author.Rules.{rules}
 use Rattle.report_ending.proofs.finish.Goals as goal
 
 pub returns-in-Whole : goal.returns-in-Whole
