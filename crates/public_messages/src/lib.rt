@@ -1,6 +1,7 @@
 // A refusal in plain words: a public function that fills a buffer of fixed length with the line that a program writes
 // to standard error. It has no `requires`.
 #![tactic(auto)]
+
 ghost use Rattle.std.specs.Prelude.{◌≡◌, [], map, ◌≤◌, ◌<◌, ◌+◌, length, get_or};
 ghost use Rattle.spec_text.specs.FirstPlaces.{in_first_places};
 ghost use Rattle.io.specs.Counts.{IsPrefixLen};

@@ -1,6 +1,7 @@
 // The functions that other languages link, by the exports of public_point_memory_c (include/point_memory.h). None has a
 // `requires`, and none is handed a state.
 #![tactic(auto)]
+
 ghost use Rattle.std.specs.Prelude.{◌≡◌};
 ghost use Rattle.spec_format.specs.Reading.{reading, verdict_of};
 ghost use Rattle.spec_report.specs.Outcomes.{run_text, run_schedule, left};
@@ -39,11 +40,7 @@ pub fn point_memory_run(text: &[u8], buffer: &mut [u8]) -> Ended
 // "A whole schedule, already read into entry records, can also be run": the records run one after another beside a
 // plan's text. The report stands in the first places of the lent buffer; what lies behind it stays as it was, and where
 // no report is written all of it does.
-pub fn point_memory_run_schedule(
-    text: &[u8],
-    records: &[Entry],
-    buffer: &mut [u8],
-) -> Ended
+pub fn point_memory_run_schedule(text: &[u8], records: &[Entry], buffer: &mut [u8]) -> Ended
     ensures value { result
         ≡ ended_of (run_schedule text.now records.now) buffer.old }
     ensures buffer_after { buffer.new
@@ -92,11 +89,7 @@ pub fn point_memory_write(text: &[u8], buffer: &mut [u8]) -> Ended
 // Writes the one text of a plan's text with records: the records are noted as a text's entry lines are, and the text
 // is written from the notes. It stands in the first places of the lent buffer; what lies behind it stays as it was, and
 // where no text is written all of it does.
-pub fn point_memory_write_schedule(
-    text: &[u8],
-    records: &[Entry],
-    buffer: &mut [u8],
-) -> Ended
+pub fn point_memory_write_schedule(text: &[u8], records: &[Entry], buffer: &mut [u8]) -> Ended
     ensures value { result
         ≡ ended_of (write_schedule text.now records.now) buffer.old }
     ensures buffer_after { buffer.new

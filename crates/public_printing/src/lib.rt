@@ -1,6 +1,7 @@
 // What the programs print: public functions that fill a buffer of fixed length with the bytes. None has a `requires`,
 // and none is handed a state.
 #![tactic(auto)]
+
 ghost use Rattle.std.specs.Prelude.{◌≡◌, List, ℕ};
 ghost use Rattle.spec_text.specs.FirstPlaces.{in_first_places};
 ghost use Rattle.spec_format.specs.Reading.{reading, verdict_of};

@@ -1,5 +1,6 @@
 // The public functions of the point memory machine. None has a `requires`, and none is handed a state.
 #![tactic(auto)]
+
 ghost use Rattle.std.specs.Prelude.{◌≡◌};
 ghost use Rattle.spec_format.specs.Reading.{reading, verdict_of};
 ghost use Rattle.spec_report.specs.Outcomes.{run_text, handed, left};

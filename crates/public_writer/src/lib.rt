@@ -1,5 +1,6 @@
 // The public functions of the plan writer. None has a `requires`, and none is handed a state.
 #![tactic(auto)]
+
 ghost use Rattle.std.specs.Prelude.{◌≡◌};
 ghost use Rattle.spec_report.specs.Outcomes.{handed, left};
 ghost use Rattle.spec_plan_text.specs.Writing.{write_text};

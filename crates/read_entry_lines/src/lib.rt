@@ -1,5 +1,6 @@
 // The lines `call` and `step`. A run of steps is one note, whatever its n.
 #![tactic(auto)]
+
 ghost use Rattle.std.specs.Prelude.{◌≡◌, List, ℕ, ◌+◌, ◌≤◌, ◌<◌, ltb, length};
 ghost use Rattle.read_fields.specs.FieldPlaces.{fields_at};
 ghost use Rattle.spec_format.specs.declared.Kind.{Kind};

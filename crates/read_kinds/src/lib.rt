@@ -1,5 +1,6 @@
 // The kind of a line, and whether it can stand where it does.
 #![tactic(auto)]
+
 ghost use Rattle.std.specs.Prelude.{◌≡◌};
 ghost use Rattle.spec_format.specs.Kinds.{same_bytes, kind_of};
 ghost use Rattle.spec_format.specs.Faults.{stands, is_unknown, laid_out};

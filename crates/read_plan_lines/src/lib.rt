@@ -1,5 +1,6 @@
 // The lines `plan`, `job` and `block`.
 #![tactic(auto)]
+
 ghost use Rattle.std.specs.Prelude.{◌≡◌, ◌&&◌, List, eqb, ℕ, ◌≤◌, ◌<◌, ◌+◌, ◌-◌, length};
 ghost use Rattle.spec_text.specs.Lines.{numbers};
 ghost use Rattle.read_fields.specs.FieldPlaces.{fields_at};

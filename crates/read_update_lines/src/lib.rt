@@ -1,5 +1,6 @@
 // The lines `update n`, `copy d a`, `set d k` and `add d a k`.
 #![tactic(auto)]
+
 ghost use Rattle.std.specs.Prelude.{◌≡◌, List, ℕ, ◌<◌};
 ghost use Rattle.spec_format.specs.declared.Kind.{Kind};
 ghost use Rattle.spec_format.specs.Plan.{named};

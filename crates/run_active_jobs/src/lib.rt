@@ -1,6 +1,7 @@
 // Which jobs are active, and which one runs on each card, kept in the cells. Only a call and a return
 // change it.
 #![tactic(auto)]
+
 ghost use Rattle.std.specs.Prelude.{◌≡◌, ◌+◌, ◌≤◌, ◌<◌, length, set};
 ghost use Rattle.read_tables.specs.PlanTable.{sizes_in, job_at};
 ghost use Rattle.step_cells.specs.CellTable.{cell_places, places, running_at, active_at};

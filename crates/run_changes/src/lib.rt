@@ -1,6 +1,7 @@
 // The changes of a table, each by itself: of a job's own places, of the statuses, of a row, of the store and of the
 // commits.
 #![tactic(auto)]
+
 ghost use Rattle.std.specs.Prelude.{◌≡◌, [], ◌∷◌, ℕ, ◌+◌, ◌*◌, ◌≤◌, ◌<◌, length, get_or, set, drop};
 ghost use Rattle.std.proofs.Math.Seq.{paste};
 ghost use Rattle.spec_text.specs.FirstPlaces.{in_first_places};

@@ -1,5 +1,6 @@
 // What an entry comes to in a state: a call, an item of a job, or a refusal; and what a record comes to in a run.
 #![tactic(auto)]
+
 ghost use Rattle.std.specs.Prelude.{◌≡◌, ◌≤◌};
 ghost use Rattle.read_tables.specs.PlanTable.{sizes_in, plan_in};
 ghost use Rattle.spec_machine.specs.Machine.{Machine};

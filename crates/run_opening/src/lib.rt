@@ -1,5 +1,6 @@
 // The machine's opening: the cells, the statuses, and the opening memory put into the store.
 #![tactic(auto)]
+
 ghost use Rattle.std.specs.Prelude.{◌≡◌, ◌≤◌, ◌+◌, length, replicate};
 ghost use Rattle.std.proofs.Math.Seq.{paste};
 ghost use Rattle.spec_format.specs.Sound.{Sound};

@@ -1,5 +1,6 @@
 // The reads and writes of a move: which word each is of, and what comes after it.
 #![tactic(auto)]
+
 ghost use Rattle.std.specs.Prelude.{◌≡◌, cond, ◌<◌, eqb, length, get_or};
 ghost use Rattle.spec_machine.specs.Memory.{sum as sum_of};
 ghost use Rattle.spec_machine.specs.Moves.{accesses as accessesOf, read, word_of, word_written as written_by, after_list};

@@ -1,6 +1,7 @@
 // The items A1 to A4, A14 and A15 of the step list, in which a job announces its call and returns. Each function is the
 // item of its label.
 #![tactic(auto)]
+
 ghost use Rattle.std.specs.Prelude.{◌≡◌, List, ℕ};
 ghost use Rattle.step_cells.specs.Tables.{Tables};
 ghost use Rattle.step_cells.specs.Effects.{Does, StaysInside};

@@ -1,6 +1,7 @@
 // The shared cells, and what is kept beside them, in one table of numbers that is lent: an accessor for each, and the
 // types of the step list's code. specs/CellTable.antt says where each number stands; the code of no other crate knows.
 #![tactic(auto)]
+
 ghost use Rattle.std.specs.Prelude.{◌≡◌, ℕ, ◌+◌, ◌*◌, ◌≤◌, ◌<◌, eqb, get_or, set};
 ghost use Rattle.step_cells.specs.CellTable.{cell_places, entries_at, committed_at, halt_at, other_at, ann_at};
 ghost use Rattle.step_cells.specs.CellTable.{running_at};

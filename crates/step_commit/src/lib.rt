@@ -1,6 +1,7 @@
 // The items H41 and H42 of the step list, in which a job stores a block of a decided update and commits it. Each
 // function is the item of its label.
 #![tactic(auto)]
+
 ghost use Rattle.std.specs.Prelude.{◌≡◌, ◌&&◌, List, ℕ, ◌≤◌, ◌<◌, eqb, ℤ, length, get_or};
 ghost use Rattle.spec_machine.specs.Status.{same_status};
 ghost use Rattle.spec_machine.specs.Steps.{same_version};

@@ -1,6 +1,7 @@
 // The items A7 to A12 of the step list, in which a job looks at V and moves it on. Each function is the item of its
 // label.
 #![tactic(auto)]
+
 ghost use Rattle.std.specs.Prelude.{◌≡◌, not, ◌&&◌, ◌||◌, List, ℕ, ◌≤◌, ◌<◌, ◌%◌, eqb, ℤ, pos, length, get_or};
 ghost use Rattle.read_tables.specs.PlanTable.{sizes_in};
 ghost use Rattle.spec_machine.specs.Status.{same_status};

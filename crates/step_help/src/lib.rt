@@ -1,6 +1,7 @@
 // The items H16 to H25 of the step list, in which a job runs the announced update and decides it, but for the stages of
 // a move. Each function is the item of its label.
 #![tactic(auto)]
+
 ghost use Rattle.std.specs.Prelude.{◌≡◌, List, ℕ, ◌≤◌, ◌<◌, length, get_or};
 ghost use Rattle.spec_format.specs.declared.Move.{Move};
 ghost use Rattle.read_tables.specs.PlanTable.{updates_in};

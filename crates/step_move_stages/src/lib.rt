@@ -1,6 +1,7 @@
 // The stages of a move that check, list and take, and one stage by its name. A read has check, list and take; a write
 // has check, list, copy and write. Each function is the stage of its name.
 #![tactic(auto)]
+
 ghost use Rattle.std.specs.Prelude.{◌≡◌, List, ℕ, length};
 ghost use Rattle.step_cells.specs.Tables.{Tables};
 ghost use Rattle.step_cells.specs.Effects.{Does, StaysInside};

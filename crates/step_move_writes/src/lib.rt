@@ -1,5 +1,6 @@
 // The stages of a move that copy a block and write a word. Each function is the stage of its name.
 #![tactic(auto)]
+
 ghost use Rattle.std.specs.Prelude.{◌≡◌};
 ghost use Rattle.step_cells.specs.Tables.{Tables};
 ghost use Rattle.step_cells.specs.Effects.{Does, StaysInside};

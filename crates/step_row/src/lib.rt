@@ -1,6 +1,7 @@
 // The items H32 to H38 of the step list, in which a job finds the row of a decided update and reads its next line. Each
 // function is the item of its label.
 #![tactic(auto)]
+
 ghost use Rattle.std.specs.Prelude.{◌≡◌, List, ℕ, ◌<◌, length, get_or};
 ghost use Rattle.spec_machine.specs.Machine.{in_row};
 ghost use Rattle.spec_machine.specs.Ranges.{Names, most_numbers};

@@ -1,6 +1,7 @@
 // What the items of the step list share: the tests that they make on the shared cells, a job's registers at the opening
 // and on to another place, and the effects that items give.
 #![tactic(auto)]
+
 ghost use Rattle.std.specs.Prelude.{◌≡◌, ◌&&◌, ◌≤◌, ℤ, pos, length, get_or};
 ghost use Rattle.read_tables.specs.PlanTable.{sizes_in};
 ghost use Rattle.spec_machine.specs.Status.{same_status, undecided};

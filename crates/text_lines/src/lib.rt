@@ -1,6 +1,7 @@
 // Numbers and lines written into a lent buffer. How long a line is comes first, by arithmetic; the line then fills
 // exactly its own part of the buffer, from its end to its start.
 #![tactic(auto)]
+
 ghost use Rattle.std.specs.Prelude.{◌≡◌, map, ◌++◌, ◌≤◌, ◌+◌, ◌*◌, length, take, drop};
 ghost use Rattle.spec_text.specs.Decimal.{decimal};
 ghost use Rattle.spec_text.specs.WrittenLines.{fields_behind, line_of};

@@ -1,5 +1,6 @@
 // How a schedule of records ends, when the records have run: what is refused, or the report.
 #![tactic(auto)]
+
 ghost use Rattle.std.specs.Prelude.{◌≡◌, List, ℕ};
 ghost use Rattle.spec_report.specs.Outcomes.{run_schedule, left};
 ghost use Rattle.report_ending.specs.Finishing.{WrittenOut, ended_of};

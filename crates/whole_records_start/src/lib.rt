@@ -1,5 +1,6 @@
 // A plan's text with a schedule of records: what comes before the records run.
 #![tactic(auto)]
+
 ghost use Rattle.std.specs.Prelude.{◌≡◌, length};
 ghost use Rattle.read_tables.specs.PlanTable.{empty_plan};
 ghost use Rattle.read_tables.specs.NoteTable.{note_places};

@@ -1,5 +1,6 @@
 // A whole text, run: it is read, its entries run one after another, and the report is written into the lent buffer.
 #![tactic(auto)]
+
 ghost use Rattle.std.specs.Prelude.{◌≡◌, List, ℕ, length};
 ghost use Rattle.read_tables.specs.PlanTable.{empty_plan};
 ghost use Rattle.read_tables.specs.NoteTable.{note_places};

@@ -1,6 +1,7 @@
 // The one text of a plan and single entries, from the tables: measured, and written into a lent buffer where there is
 // room for all of it.
 #![tactic(auto)]
+
 ghost use Rattle.std.specs.Prelude.{◌≤◌, ◌≡◌, length};
 ghost use Rattle.spec_format.specs.Sound.{Sound};
 ghost use Rattle.spec_report.specs.Outcomes.{written};

@@ -1,6 +1,7 @@
 // A plan's text that was read, with noted records, written: the records run, and where the run is not refused the one
 // text of the plan and the records is written into the lent buffer.
 #![tactic(auto)]
+
 ghost use Rattle.std.specs.Prelude.{◌≡◌, List, ℕ};
 ghost use Rattle.spec_format.specs.declared.Entry.{Entry};
 ghost use Rattle.spec_report.specs.Outcomes.{left};

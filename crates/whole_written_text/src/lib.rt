@@ -1,6 +1,7 @@
 // A whole text, written: it is read and its entries run, and where the run is not refused the one text of its plan and
 // its single entries is written into the lent buffer.
 #![tactic(auto)]
+
 ghost use Rattle.std.specs.Prelude.{◌≡◌, List, ℕ, length};
 ghost use Rattle.read_tables.specs.PlanTable.{empty_plan};
 ghost use Rattle.read_tables.specs.NoteTable.{note_places};

@@ -9,4 +9,4 @@ pub returns-then-entry-eq0 : goal.returns-then-entry-eq0
 returns-then-entry-eq0 c = rw (eq-eqb _ 0 c.if-entry-eq0.true) (widen 18 (omega arith) (nothing _ _))
 
 pub returns : goal.returns
-returns c =             rw (ne_eqb _ 0 c.if-entry-eq0.false) (then c.put_bytes-next.ensures c.put_decimal.ensures)
+returns c = rw (ne_eqb _ 0 c.if-entry-eq0.false) (then c.put_bytes-next.ensures c.put_decimal.ensures)

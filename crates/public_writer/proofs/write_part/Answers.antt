@@ -9,4 +9,4 @@ use borrow.Author.Rules.{rules}
 use Rattle.public_writer.proofs.write_part.Goals as goal
 
 pub returns-clause-result_value : goal.returns-clause-result_value
-returns-clause-result_value c =         rw (c.write-ended.ensures.value, c.write-ended.ensures.buffer_after) (handed-first (write_text c.args.text.now) c.args.buffer.now)
+returns-clause-result_value c = rw (c.write-ended.ensures.value, c.write-ended.ensures.buffer_after) (handed-first (write_text c.args.text.now) c.args.buffer.now)

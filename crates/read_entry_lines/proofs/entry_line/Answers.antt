@@ -18,6 +18,6 @@ returns c =
     entry_directive a.kind a.numbers ≡ some (entry c.entry_of-e.result c.times_of-times.result) = ap (entry_directive c.args.kind) c.in-Are.is
     ∙ (λ i. some (entry (sym c.entry_of-e.ensures i) (sym c.times_of-times.ensures i))) in
     λ k t h.
-                            entry_read k _ t _ _ _ c.entry_of-e.result c.times_of-times.result (says)
+    entry_read k _ t _ _ _ c.entry_of-e.result c.times_of-times.result (says)
     (omega arith) (omega (arith, c.if-times-gt-MOST.false))
     (omega (arith, c.if-times-gt-MOST.false, c.if-room-p.false)) c.requires.0 h c.requires.1.1 c.note.ensures

@@ -75,7 +75,7 @@ carried kind p x x' r n o i is says step =
 pub returns-then-second_follows : goal.returns-then-second_follows
 returns-then-second_follows c =
     λ s t h.
-        let a = c.args in
+    let a = c.args in
     carried EntryKind.Run _ _ _ _ c.three_at.result (numbers 2 (fields_at a.line.now a.at)) _
     c.three_at.ensures
     (more-fields s (fields_at a.line.now a.at)
@@ -85,7 +85,7 @@ returns-then-second_follows c =
 pub returns : goal.returns
 returns c =
     λ s t h.
-        let a = c.args in
+    let a = c.args in
     carried EntryKind.Step _ _ _ _ c.three_at-2.result (numbers 1 (fields_at a.line.now a.at)) _
     c.three_at-2.ensures
     (one_field s (fields_at a.line.now a.at)

@@ -18,8 +18,8 @@ is j k = eqb k.card j.card && eqb k.priority j.priority
 
 pub returns-then-same_job : goal.returns-then-same_job
 returns-then-same_job c =
-    let tested :     is (record { card = c.args.card; priority = c.args.priority }) (job_at c.args.plan.now c.loop-i.i)
-    ≡ c.same_job.result =     sym
+    let tested : is (record { card = c.args.card; priority = c.args.priority }) (job_at c.args.plan.now c.loop-i.i)
+    ≡ c.same_job.result = sym
     (c.same_job.ensures
     ∙ ap₂ (λ x y. eqb x c.args.card && eqb y c.args.priority) c.card.ensures
     c.priority.ensures) in

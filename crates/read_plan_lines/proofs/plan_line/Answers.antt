@@ -37,7 +37,7 @@ returns c =
       copies = sym c.wide-5.ensures i;
     })) in
     λ e.
-                plan-read _ c.args.plan.now _ e _ (the_sizes) (says-plan)
+    plan-read _ c.args.plan.now _ e _ (the_sizes) (says-plan)
     (sym c.in_range.ensures ∙ c.if-not-in_range.false)
     c.requires.1.0
     c.requires.1.1

@@ -25,13 +25,13 @@ returns-then-count-ge16 c =
     let the_move : Move = c.move_from-m.result in
     let last : ℕ = c.updates-last.result - 1 in
     let says : let a = c.args in
-    move_directive a.kind a.numbers ≡ some (move (the_move)) =     ap (move_directive c.args.kind) c.in-Are.is
+    move_directive a.kind a.numbers ≡ some (move (the_move)) = ap (move_directive c.args.kind) c.in-Are.is
     ∙ ap (λ (x : Move). some (move x)) (sym c.move_from-m.ensures) in
     let plan : List ℕ = c.args.plan.now in
     let placed : updates_in (plan) ≡ last + 1 = omega (arith, c.updates-last.ensures, c.requires.0) in
     let count : c.wide-count.result ≡ count_at (plan) (last) = c.wide-count.ensures ∙ c.count.ensures in
     λ k e.
-        bad-move k _ _ _ _ (the_move) (last) Fault.TooMany (says) (placed)
+    bad-move k _ _ _ _ (the_move) (last) Fault.TooMany (says) (placed)
     (judged-many (plan) (the_move) (last) (subst (λ n. 16 ≤ n) (count) c.if-count-ge16.true))
 
 pub returns-then-names_past : goal.returns-then-names_past
@@ -39,7 +39,7 @@ returns-then-names_past c =
     let the_move : Move = c.move_from-m.result in
     let last : ℕ = c.updates-last.result - 1 in
     let says : let a = c.args in
-    move_directive a.kind a.numbers ≡ some (move (the_move)) =     ap (move_directive c.args.kind) c.in-Are.is
+    move_directive a.kind a.numbers ≡ some (move (the_move)) = ap (move_directive c.args.kind) c.in-Are.is
     ∙ ap (λ (x : Move). some (move x)) (sym c.move_from-m.ensures) in
     let plan : List ℕ = c.args.plan.now in
     let placed : updates_in (plan) ≡ last + 1 = omega (arith, c.updates-last.ensures, c.requires.0) in
@@ -52,7 +52,7 @@ returns-then-names_past c =
     (sym (c.memory_of.ensures.0 ∙ ap (λ (z : Sizes). z.blocks * z.words) (sized)))
     ∙ sym c.names_past.ensures in
     λ k e.
-            bad-move k _ _ _ _ (the_move) (last) Fault.BadWord (says) (placed)
+    bad-move k _ _ _ _ (the_move) (last) Fault.BadWord (says) (placed)
     (judged-past (plan) (the_move) (last) (few) (past ∙ c.if-names_past.true))
 
 pub returns-then-sizes-blocks : goal.returns-then-sizes-blocks
@@ -60,7 +60,7 @@ returns-then-sizes-blocks c =
     let the_move : Move = c.move_from-m.result in
     let last : ℕ = c.updates-last.result - 1 in
     let says : let a = c.args in
-    move_directive a.kind a.numbers ≡ some (move (the_move)) =     ap (move_directive c.args.kind) c.in-Are.is
+    move_directive a.kind a.numbers ≡ some (move (the_move)) = ap (move_directive c.args.kind) c.in-Are.is
     ∙ ap (λ (x : Move). some (move x)) (sym c.move_from-m.ensures) in
     let plan : List ℕ = c.args.plan.now in
     let placed : updates_in (plan) ≡ last + 1 = omega (arith, c.updates-last.ensures, c.requires.0) in
@@ -76,15 +76,15 @@ returns-then-sizes-blocks c =
     let with_word : ℕ → ℕ → ℕ → ℕ = λ size d n. cond (writes_to size (block_of size d) (tabulate n (λ i. target_at (plan) (16 * last + i))))
     c.args.p.written
     (c.args.p.written + 1) in
-    let counted :     let size = (sizes_in (plan)).words in
-    length (blocks_written size (update_at (plan) (last) ++ (the_move ∷ []))) ≡ c.blocks_with-blocks.result =         let size = (sizes_in (plan)).words in
+    let counted : let size = (sizes_in (plan)).words in
+    length (blocks_written size (update_at (plan) (last) ++ (the_move ∷ []))) ≡ c.blocks_with-blocks.result = let size = (sizes_in (plan)).words in
     blocks_more (plan) (last) size c.args.p.written (the_move)
     (count_is c.args.p (plan) (last) (placed) (holds))
     ∙ sym
     (c.blocks_with-blocks.ensures
     ∙ (λ i. with_word (sized i).words (c.target_of.ensures i) (count i))) in
     λ k e.
-                bad-move k _ _ _ _ (the_move) (last) Fault.TooManyBlocks (says) (placed)
+    bad-move k _ _ _ _ (the_move) (last) Fault.TooManyBlocks (says) (placed)
     (judged-blocks (plan) (the_move) (last) (few) (past ∙ c.if-names_past.false) c.blocks_with-blocks.result
     (counted)
     (subst (λ (z : Sizes). z.copies < c.blocks_with-blocks.result) (sized) c.if-sizes-blocks.true))
@@ -97,7 +97,7 @@ returns c =
     let the_move : Move = c.move_from-m.result in
     let last : ℕ = c.updates-last.result - 1 in
     let says : let a = c.args in
-    move_directive a.kind a.numbers ≡ some (move (the_move)) =     ap (move_directive c.args.kind) c.in-Are.is
+    move_directive a.kind a.numbers ≡ some (move (the_move)) = ap (move_directive c.args.kind) c.in-Are.is
     ∙ ap (λ (x : Move). some (move x)) (sym c.move_from-m.ensures) in
     let placed : updates_in (plan) ≡ last + 1 = omega (arith, c.updates-last.ensures, c.requires.0) in
     let count : c.wide-count.result ≡ count_at (plan) (last) = c.wide-count.ensures ∙ c.count.ensures in
@@ -110,15 +110,15 @@ returns c =
     let with_word : ℕ → ℕ → ℕ → ℕ = λ size d n. cond (writes_to size (block_of size d) (tabulate n (λ i. target_at (plan) (16 * last + i))))
     c.args.p.written
     (c.args.p.written + 1) in
-    let counted :     let size = (sizes_in (plan)).words in
-    length (blocks_written size (update_at (plan) (last) ++ (the_move ∷ []))) ≡ c.blocks_with-blocks.result =         let size = (sizes_in (plan)).words in
+    let counted : let size = (sizes_in (plan)).words in
+    length (blocks_written size (update_at (plan) (last) ++ (the_move ∷ []))) ≡ c.blocks_with-blocks.result = let size = (sizes_in (plan)).words in
     blocks_more (plan) (last) size c.args.p.written (the_move)
     (count_is c.args.p (plan) (last) (placed) (holds))
     ∙ sym
     (c.blocks_with-blocks.ensures
     ∙ (λ i. with_word (sized i).words (c.target_of.ensures i) (count i))) in
     λ k e.
-                    let h = holds in
+    let h = holds in
     let enough = subst (λ (z : Sizes). c.blocks_with-blocks.result ≤ z.copies) (sized) c.if-sizes-blocks.false in
     move_read k _ (plan) _ _ e _ (the_move) (last) c.wide-count.result c.blocks_with-blocks.result (says)
     (placed)

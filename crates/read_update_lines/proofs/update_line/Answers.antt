@@ -25,7 +25,7 @@ returns-then-wide-updates c =
     let plan : List ℕ = c.args.plan.now in
     let few : updates_in (plan) < 32 = omega (arith, c.updates-updates.ensures, c.if-updates-ge32.false) in
     λ k e.
-            bad-update k _ _ _ _ (the_number) (says) Fault.Misnumbered
+    bad-update k _ _ _ _ (the_number) (says) Fault.Misnumbered
     (judged-other (updates_in (plan)) (the_number) (few)
     (λ same. c.if-wide-updates.true (omega (arith, c.wide.ensures, same, c.updates-updates.ensures))))
 
@@ -36,7 +36,7 @@ returns c =
     let says : update_directive c.args.numbers ≡ some (update (the_number)) = ap update_directive c.in-Are.is in
     let next : the_number ≡ c.updates-updates.result = omega (arith, c.wide.ensures, c.if-wide-updates.false) in
     λ k e.
-                    update-read k _ (plan) _ _ e _ c.updates-updates.result (says ∙ ap (λ n. some (update n)) (next))
+    update-read k _ (plan) _ _ e _ c.updates-updates.result (says ∙ ap (λ n. some (update n)) (next))
     (sym c.updates-updates.ensures)
     c.if-updates-ge32.false
     c.requires.0

@@ -14,8 +14,8 @@ use Rattle.run_changes.proofs.reclaim.Goals.{then-dirty-eq2, else-dirty-eq2}
 
 pub put_copy-requires : goal.put_copy-requires
 put_copy-requires c =
-    let marked :         c.dirty.result ≡ get_or (places c.args.cells.now (dirty_at c.args.p) 16) (get_or c.args.addr c.loop-i.i 0) 0 =         c.dirty.ensures 0 ∙ ap (λ k. get_or k (get_or c.args.addr c.loop-i.i 0) 0) (puts-marks c.args.p _ _ _ c.loop-i.invariant.1.1) in
-    let place : c.loop-i.used < 8 =         omega (
+    let marked : c.dirty.result ≡ get_or (places c.args.cells.now (dirty_at c.args.p) 16) (get_or c.args.addr c.loop-i.i 0) 0 = c.dirty.ensures 0 ∙ ap (λ k. get_or k (get_or c.args.addr c.loop-i.i 0) 0) (puts-marks c.args.p _ _ _ c.loop-i.invariant.1.1) in
+    let place : c.loop-i.used < 8 = omega (
       arith,
       c.loop-i.invariant.1.0,
       c.requires.n_len_bound,
@@ -28,8 +28,8 @@ put_copy-requires c =
 
 pub overflow_add-used : goal.overflow_add-used
 overflow_add-used c =
-    let marked :         c.dirty.result ≡ get_or (places c.args.cells.now (dirty_at c.args.p) 16) (get_or c.args.addr c.loop-i.i 0) 0 =         c.dirty.ensures 0 ∙ ap (λ k. get_or k (get_or c.args.addr c.loop-i.i 0) 0) (puts-marks c.args.p _ _ _ c.loop-i.invariant.1.1) in
-    let place : c.loop-i.used < 8 =         omega (
+    let marked : c.dirty.result ≡ get_or (places c.args.cells.now (dirty_at c.args.p) 16) (get_or c.args.addr c.loop-i.i 0) 0 = c.dirty.ensures 0 ∙ ap (λ k. get_or k (get_or c.args.addr c.loop-i.i 0) 0) (puts-marks c.args.p _ _ _ c.loop-i.invariant.1.1) in
+    let place : c.loop-i.used < 8 = omega (
       arith,
       c.loop-i.invariant.1.0,
       c.requires.n_len_bound,
@@ -44,7 +44,7 @@ pub loop-i-preserved : goal.loop-i-preserved
 loop-i-preserved c =
     let marked : c.dirty.result ≡ get_or (places c.args.cells.now (dirty_at c.args.p) 16) (get_or c.args.addr c.loop-i.i 0) 0
     = c.dirty.ensures 0
-        ∙ ap (λ k. get_or k (get_or c.args.addr c.loop-i.i 0) 0) (puts-marks c.args.p _ _ _ c.loop-i.invariant.1.1) in
+    ∙ ap (λ k. get_or k (get_or c.args.addr c.loop-i.i 0) 0) (puts-marks c.args.p _ _ _ c.loop-i.invariant.1.1) in
     let addr : ℕ → ℕ = λ k. get_or c.args.addr k 0 in
     let old : ℕ → ℕ = λ k. get_or c.args.old k 0 in
     let marks = places c.args.cells.now (dirty_at c.args.p) 16 in
@@ -57,7 +57,7 @@ loop-i-preserved c =
       has-place addr old marks c.loop-i.i c.args.n c.loop-i-test.true (sym marked ∙ t),
     ) in
     elim c.if-dirty-eq2.branch [
-      then-dirty-eq2 w ↦
+      | then-dirty-eq2 w ↦
           let more = replaced-written addr old marks c.loop-i.i (sym marked ∙ w.if-dirty-eq2.true) in
           let free = place w.if-dirty-eq2.true in
           let room : length ns < 8 = omega (arith, free, c.loop-i.invariant.1.0) in (

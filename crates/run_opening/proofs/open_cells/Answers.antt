@@ -22,7 +22,7 @@ loop-p-preserved c =
 pub returns : goal.returns
 returns c =
     let l = c.loop-p in
-                        let all : l.p ≡ 16 = omega arith in
+    let all : l.p ≡ 16 = omega arith in
     rw (c.jobs-none.ensures, c.copies-copies.ensures)
     at (parts _ c.copies-copies.result _ _ _ _ c.requires.1 c.open_ann.ensures c.open_running.ensures
     c.open_bank.ensures _ (rw all at l.invariant.1.1.1))

@@ -10,22 +10,22 @@ pub returns-then-w-eq0-clause-does : goal.returns-then-w-eq0-clause-does
 unfolding Does item
 returns-then-w-eq0-clause-does c =
     λ x.
-                  rw (
-        c.storing.ensures,
-        c.go_to.ensures,
-        card-in c.requires,
-        ← c.card.ensures,
-        eq-eqb _ _ c.if-w-eq0.true,
-      )
+    rw (
+      c.storing.ensures,
+      c.go_to.ensures,
+      card-in c.requires,
+      ← c.card.ensures,
+      eq-eqb _ _ c.if-w-eq0.true,
+    )
 
 pub returns-clause-does : goal.returns-clause-does
 unfolding Does item
 returns-clause-does c =
     λ x.
-                  rw (
-        c.storing-2.ensures,
-        c.go_to-2.ensures,
-        card-in c.requires,
-        ← c.card.ensures,
-        ne_eqb _ _ c.if-w-eq0.false,
-      )
+    rw (
+      c.storing-2.ensures,
+      c.go_to-2.ensures,
+      card-in c.requires,
+      ← c.card.ensures,
+      ne_eqb _ _ c.if-w-eq0.false,
+    )

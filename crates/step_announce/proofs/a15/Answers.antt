@@ -9,4 +9,4 @@ pub returns-clause-does : goal.returns-clause-does
 unfolding Does item
 returns-clause-does c =
     λ x.
-            rw (c.storing.ensures, c.go_to.ensures, card-in c.requires, ← c.card.ensures)
+    rw (c.storing.ensures, c.go_to.ensures, card-in c.requires, ← c.card.ensures)

@@ -13,16 +13,16 @@ pub returns-then-lid-jobs-clause-does : goal.returns-then-lid-jobs-clause-does
 unfolding Does item
 returns-then-lid-jobs-clause-does c =
     λ x is.
-                  let t = c.args.plan.now in
-      let card = card-in c.requires.0 ∙ sym c.card.ensures in
-      rw (is, card, ← c.ann-lid.ensures (sizes_in t).jobs, ← c.jobs.ensures, eq-eqb _ _ c.if-lid-jobs.true)
-      (rw (c.quiet.ensures, c.go_to.ensures))
+    let t = c.args.plan.now in
+    let card = card-in c.requires.0 ∙ sym c.card.ensures in
+    rw (is, card, ← c.ann-lid.ensures (sizes_in t).jobs, ← c.jobs.ensures, eq-eqb _ _ c.if-lid-jobs.true)
+    (rw (c.quiet.ensures, c.go_to.ensures))
 
 pub returns-clause-does : goal.returns-clause-does
 unfolding Does item
 returns-clause-does c =
     λ x is.
-                  let t = c.args.plan.now in
-      let card = card-in c.requires.0 ∙ sym c.card.ensures in
-      rw (is, card, ← c.ann-lid.ensures (sizes_in t).jobs, ← c.jobs.ensures, ne_eqb _ _ c.if-lid-jobs.false)
-      (rw (c.quiet-2.ensures, c.go_to-2.ensures))
+    let t = c.args.plan.now in
+    let card = card-in c.requires.0 ∙ sym c.card.ensures in
+    rw (is, card, ← c.ann-lid.ensures (sizes_in t).jobs, ← c.jobs.ensures, ne_eqb _ _ c.if-lid-jobs.false)
+    (rw (c.quiet-2.ensures, c.go_to-2.ensures))

@@ -9,12 +9,12 @@ pub returns-then-may_store-clause-by_index : goal.returns-then-may_store-clause-
 unfolding Does item
 returns-then-may_store-clause-by_index c =
     λ t x p is.
-            let yes = sym c.may_store.ensures ∙ c.if-may_store.true in
-      rw (is, yes) (rw (c.doing.ensures, c.after_store.ensures))
+    let yes = sym c.may_store.ensures ∙ c.if-may_store.true in
+    rw (is, yes) (rw (c.doing.ensures, c.after_store.ensures))
 
 pub returns-clause-by_index : goal.returns-clause-by_index
 unfolding Does item
 returns-clause-by_index c =
     λ t x p is.
-            let no = sym c.may_store.ensures ∙ c.if-may_store.false in
-      rw (is, no) (rw (c.quiet.ensures, c.after_store-2.ensures))
+    let no = sym c.may_store.ensures ∙ c.if-may_store.false in
+    rw (is, no) (rw (c.quiet.ensures, c.after_store-2.ensures))

@@ -13,14 +13,14 @@ pub returns-clause-does : goal.returns-clause-does
 unfolding Does item
 returns-clause-does c =
     λ x is stat-is.
-                  let t = c.args.plan.now in
-      let jobs = (sizes_in t).jobs in
-      rw (
-        c.quiet.ensures,
-        c.go_to.ensures,
-        is,
-        stat-is,
-        ← c.cards.ensures,
-        ← c.ann-hid.ensures jobs,
-        c.is_pending.ensures (pos jobs),
-      )
+    let t = c.args.plan.now in
+    let jobs = (sizes_in t).jobs in
+    rw (
+      c.quiet.ensures,
+      c.go_to.ensures,
+      is,
+      stat-is,
+      ← c.cards.ensures,
+      ← c.ann-hid.ensures jobs,
+      c.is_pending.ensures (pos jobs),
+    )

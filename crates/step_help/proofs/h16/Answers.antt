@@ -12,6 +12,6 @@ pub returns-clause-does : goal.returns-clause-does
 unfolding Does item
 returns-clause-does c =
     λ x is.
-                  let t = c.args.plan.now in
-      rw (is, ← c.cards.ensures, ← c.ann.ensures (sizes_in t).jobs)
-      (rw (c.quiet.ensures, c.go_to.ensures))
+    let t = c.args.plan.now in
+    rw (is, ← c.cards.ensures, ← c.ann.ensures (sizes_in t).jobs)
+    (rw (c.quiet.ensures, c.go_to.ensures))

@@ -15,9 +15,9 @@ pub returns-clause-does : goal.returns-clause-does
 unfolding Does item
 returns-clause-does c =
     λ x p is.
-                        let t = c.args.plan.now in
-      let tr = c.trans-tr.result in
-      let few : tr < updates_in t = omega (arith, c.trans-tr.ensures 0, c.requires) in
-      let moves = count-in t tr few ∙ sym c.count.ensures in
-      rw (is, ← c.trans-tr.ensures 0, ← c.begin.ensures (get_or (plan_in t).updates tr []) moves)
-      (rw (c.quiet.ensures, c.go_to.ensures))
+    let t = c.args.plan.now in
+    let tr = c.trans-tr.result in
+    let few : tr < updates_in t = omega (arith, c.trans-tr.ensures 0, c.requires) in
+    let moves = count-in t tr few ∙ sym c.count.ensures in
+    rw (is, ← c.trans-tr.ensures 0, ← c.begin.ensures (get_or (plan_in t).updates tr []) moves)
+    (rw (c.quiet.ensures, c.go_to.ensures))

@@ -11,12 +11,12 @@ pub returns-then-may_decide-clause-by_index : goal.returns-then-may_decide-claus
 unfolding Does item stage
 returns-then-may_decide-clause-by_index c =
     λ t x p is stat.
-            let may = sym (c.may_decide.ensures (pos (sizes_in t).jobs)) ∙ c.if-may_decide.true in
-      rw (is, stat, may) (rw (c.quiet.ensures, c.go_to.ensures))
+    let may = sym (c.may_decide.ensures (pos (sizes_in t).jobs)) ∙ c.if-may_decide.true in
+    rw (is, stat, may) (rw (c.quiet.ensures, c.go_to.ensures))
 
 pub returns-clause-by_index : goal.returns-clause-by_index
 unfolding Does item stage
 returns-clause-by_index c =
     λ t x p is stat.
-            let may = sym (c.may_decide.ensures (pos (sizes_in t).jobs)) ∙ c.if-may_decide.false in
-      rw (is, stat, may) (rw (c.storing.ensures, c.go_to-2.ensures))
+    let may = sym (c.may_decide.ensures (pos (sizes_in t).jobs)) ∙ c.if-may_decide.false in
+    rw (is, stat, may) (rw (c.storing.ensures, c.go_to-2.ensures))

@@ -18,17 +18,17 @@ returns-then-dirty-eq0-clause-does c =
       the-words = c.words.ensures;
     } in
     λ x is.
-          rw (
-            is,
-            move-found (found) (own_of c.args.cells.now c.args.p),
-            ← c.word_of.ensures,
-            ← c.words.ensures,
-            ← c.after_list-after.ensures,
-            ← c.dirty.ensures 0,
-            ← c.bank-number.ensures 0,
-            eq-eqb _ _ c.if-dirty-eq0.true,
-          )
-          (rw (c.storing.ensures, c.go_to.ensures))
+    rw (
+      is,
+      move-found (found) (own_of c.args.cells.now c.args.p),
+      ← c.word_of.ensures,
+      ← c.words.ensures,
+      ← c.after_list-after.ensures,
+      ← c.dirty.ensures 0,
+      ← c.bank-number.ensures 0,
+      eq-eqb _ _ c.if-dirty-eq0.true,
+    )
+    (rw (c.storing.ensures, c.go_to.ensures))
 
 pub returns-clause-does : goal.returns-clause-does
 unfolding Does item stage
@@ -41,13 +41,13 @@ returns-clause-does c =
       the-words = c.words.ensures;
     } in
     λ x is.
-          rw (
-            is,
-            move-found (found) (own_of c.args.cells.now c.args.p),
-            ← c.word_of.ensures,
-            ← c.words.ensures,
-            ← c.after_list-after.ensures,
-            ← c.dirty.ensures 0,
-            ne_eqb _ _ c.if-dirty-eq0.false,
-          )
-          (rw (c.quiet.ensures, c.go_to-2.ensures))
+    rw (
+      is,
+      move-found (found) (own_of c.args.cells.now c.args.p),
+      ← c.word_of.ensures,
+      ← c.words.ensures,
+      ← c.after_list-after.ensures,
+      ← c.dirty.ensures 0,
+      ne_eqb _ _ c.if-dirty-eq0.false,
+    )
+    (rw (c.quiet.ensures, c.go_to-2.ensures))

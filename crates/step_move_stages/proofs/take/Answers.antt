@@ -11,17 +11,17 @@ use Rattle.step_move_stages.proofs.take.Goals as goal
 
 pub overflow_mul-at : goal.overflow_mul-at
 overflow_mul-at c =
-    let in-store : c.curr-number.result * c.words-words.result + c.word_of-word.result % c.words-words.result < 2304 =         word-in-store c.requires.plan_fits.0 c.words-words.ensures c.word_of-word.result c.requires.plan_fits.1.0 (c.curr-number.ensures 0) in
+    let in-store : c.curr-number.result * c.words-words.result + c.word_of-word.result % c.words-words.result < 2304 = word-in-store c.requires.plan_fits.0 c.words-words.ensures c.word_of-word.result c.requires.plan_fits.1.0 (c.curr-number.ensures 0) in
     record { fits = omega (arith, in-store) }
 
 pub overflow_add-at : goal.overflow_add-at
 overflow_add-at c =
-    let in-store : c.curr-number.result * c.words-words.result + c.word_of-word.result % c.words-words.result < 2304 =         word-in-store c.requires.plan_fits.0 c.words-words.ensures c.word_of-word.result c.requires.plan_fits.1.0 (c.curr-number.ensures 0) in
+    let in-store : c.curr-number.result * c.words-words.result + c.word_of-word.result % c.words-words.result < 2304 = word-in-store c.requires.plan_fits.0 c.words-words.ensures c.word_of-word.result c.requires.plan_fits.1.0 (c.curr-number.ensures 0) in
     record { fits = omega (arith, in-store) }
 
 pub bounds-store-at : goal.bounds-store-at
 bounds-store-at c =
-    let in-store : c.curr-number.result * c.words-words.result + c.word_of-word.result % c.words-words.result < 2304 =         word-in-store c.requires.plan_fits.0 c.words-words.ensures c.word_of-word.result c.requires.plan_fits.1.0 (c.curr-number.ensures 0) in
+    let in-store : c.curr-number.result * c.words-words.result + c.word_of-word.result % c.words-words.result < 2304 = word-in-store c.requires.plan_fits.0 c.words-words.ensures c.word_of-word.result c.requires.plan_fits.1.0 (c.curr-number.ensures 0) in
     omega (arith, in-store, c.requires.store_len)
 
 pub returns-clause-does : goal.returns-clause-does
@@ -35,11 +35,11 @@ returns-clause-does c =
       the-words = c.words-words.ensures;
     } in
     let a = c.args in λ x is store.
-          let number = rw (← is) at (c.curr-number.ensures 0) in
-          rw (
-            take-is (found) (own_of x.cells a.p) _ number (shared_of (plan_in a.plan.now) x) a.p,
-            is,
-            store,
-            ← c.words-words.ensures,
-          )
-          (rw (c.quiet.ensures, c.onward.ensures))
+    let number = rw (← is) at (c.curr-number.ensures 0) in
+    rw (
+      take-is (found) (own_of x.cells a.p) _ number (shared_of (plan_in a.plan.now) x) a.p,
+      is,
+      store,
+      ← c.words-words.ensures,
+    )
+    (rw (c.quiet.ensures, c.onward.ensures))

@@ -20,15 +20,15 @@ returns-then-dirty-eq2-clause-does c =
       the-words = c.words.ensures;
     } in
     λ x is.
-          rw (
-            is,
-            move-found (found) (own_of c.args.cells.now c.args.p),
-            ← c.word_of.ensures,
-            ← c.words.ensures,
-            ← c.dirty.ensures 0,
-            eq-eqb _ _ c.if-dirty-eq2.true,
-          )
-          (rw (c.quiet.ensures, c.go_to.ensures))
+    rw (
+      is,
+      move-found (found) (own_of c.args.cells.now c.args.p),
+      ← c.word_of.ensures,
+      ← c.words.ensures,
+      ← c.dirty.ensures 0,
+      eq-eqb _ _ c.if-dirty-eq2.true,
+    )
+    (rw (c.quiet.ensures, c.go_to.ensures))
 
 pub returns-clause-does : goal.returns-clause-does
 unfolding Does item stage
@@ -41,17 +41,17 @@ returns-clause-does c =
       the-words = c.words.ensures;
     } in
     let fits = c.requires.plan_fits.1.0 in λ x is.
-          rw (
-            is,
-            move-found (found) (own_of c.args.cells.now c.args.p),
-            ← c.word_of.ensures,
-            ← c.words.ensures,
-            ← c.dirty.ensures 0,
-            ne_eqb _ _ c.if-dirty-eq2.false,
-            ← c.curr-from.ensures 0,
-            ← c.copy-to.ensures 0,
-          )
-          (rw (c.storing.ensures, c.go_to-2.ensures))
+    rw (
+      is,
+      move-found (found) (own_of c.args.cells.now c.args.p),
+      ← c.word_of.ensures,
+      ← c.words.ensures,
+      ← c.dirty.ensures 0,
+      ne_eqb _ _ c.if-dirty-eq2.false,
+      ← c.curr-from.ensures 0,
+      ← c.copy-to.ensures 0,
+    )
+    (rw (c.storing.ensures, c.go_to-2.ensures))
 
 pub returns-clause-stays_inside : goal.returns-clause-stays_inside
 unfolding Does item stage
@@ -64,6 +64,6 @@ returns-clause-stays_inside c =
       the-words = c.words.ensures;
     } in
     let fits = c.requires.plan_fits.1.0 in rw c.storing.ensures (
-        (block-there (found), (rw (c.curr-from.ensures 0) (fits.curr _), rw (c.copy-to.ensures 0) (fits.copy _))),
-        λ x p. tt,
-      )
+      (block-there (found), (rw (c.curr-from.ensures 0) (fits.curr _), rw (c.copy-to.ensures 0) (fits.copy _))),
+      λ x p. tt,
+    )

@@ -2,7 +2,7 @@
 use Rattle.spec_machine.specs.Steps.{stage, item}
 use Rattle.step_cells.specs.Tables.{own_of}
 use Rattle.step_cells.specs.Effects.{Does}
-use Rattle.step_accesses.proofs.MovesInTable.{ Found, access-there, move-found, onward-is, block-there, job-below, place-below, }
+use Rattle.step_accesses.proofs.MovesInTable.{Found, access-there, move-found, onward-is, block-there, job-below, place-below}
 use borrow.Author.Rules.{rules}
 use Rattle.step_move_writes.proofs.write.Goals as goal
 
@@ -17,16 +17,16 @@ returns-clause-does c =
       the-words = c.words-words.ensures;
     } in
     let o = own_of c.args.cells.now c.args.p in λ x is.
-          rw (
-            is,
-            onward-is c.requires.1.1.1 o,
-            move-found (found) o,
-            ← c.word_of-word.ensures,
-            ← c.words-words.ensures,
-            ← c.curr-number.ensures 0,
-            ← c.word_written.ensures,
-          )
-          (rw (c.storing.ensures, c.onward.ensures))
+    rw (
+      is,
+      onward-is c.requires.1.1.1 o,
+      move-found (found) o,
+      ← c.word_of-word.ensures,
+      ← c.words-words.ensures,
+      ← c.curr-number.ensures 0,
+      ← c.word_written.ensures,
+    )
+    (rw (c.storing.ensures, c.onward.ensures))
 
 pub returns-clause-stays_inside : goal.returns-clause-stays_inside
 unfolding Does item stage
@@ -39,4 +39,4 @@ returns-clause-stays_inside c =
       the-words = c.words-words.ensures;
     } in
     let o = own_of c.args.cells.now c.args.p in rw c.storing.ensures
-          ((rw (c.curr-number.ensures 0) (c.requires.1.0.curr _), place-below c.requires.0 c.words-words.ensures _), λ x p. tt)
+    ((rw (c.curr-number.ensures 0) (c.requires.1.0.curr _), place-below c.requires.0 c.words-words.ensures _), λ x p. tt)

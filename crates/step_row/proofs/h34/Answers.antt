@@ -13,16 +13,16 @@ pub returns-then-n-eq0-clause-by_index : goal.returns-then-n-eq0-clause-by_index
 unfolding Does item
 returns-then-n-eq0-clause-by_index c =
     λ t x is.
-                  -- wid goes to the call as bits
-      let wid = c.job_named.ensures.0 ∙ ap job_named (names-back c.args.w.wid c.requires.1) in
-      rw (is, ← wid, ← c.numblks-n.ensures 0, eq-eqb _ _ c.if-n-eq0.true)
-      (rw (c.quiet.ensures, c.go_to.ensures))
+    -- wid goes to the call as bits
+    let wid = c.job_named.ensures.0 ∙ ap job_named (names-back c.args.w.wid c.requires.1) in
+    rw (is, ← wid, ← c.numblks-n.ensures 0, eq-eqb _ _ c.if-n-eq0.true)
+    (rw (c.quiet.ensures, c.go_to.ensures))
 
 pub returns-clause-by_index : goal.returns-clause-by_index
 unfolding Does item
 returns-clause-by_index c =
     λ t x is.
-                  -- wid goes to the call as bits
-      let wid = c.job_named.ensures.0 ∙ ap job_named (names-back c.args.w.wid c.requires.1) in
-      rw (is, ← wid, ← c.numblks-n.ensures 0, ne_eqb _ _ c.if-n-eq0.false)
-      (rw (c.quiet-2.ensures, c.go_to-2.ensures))
+    -- wid goes to the call as bits
+    let wid = c.job_named.ensures.0 ∙ ap job_named (names-back c.args.w.wid c.requires.1) in
+    rw (is, ← wid, ← c.numblks-n.ensures 0, ne_eqb _ _ c.if-n-eq0.false)
+    (rw (c.quiet-2.ensures, c.go_to-2.ensures))

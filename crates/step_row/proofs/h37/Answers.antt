@@ -11,14 +11,14 @@ pub returns-then-is_finished-clause-does : goal.returns-then-is_finished-clause-
 unfolding Does item
 returns-then-is_finished-clause-does c =
     λ x is.
-            let none = pos (sizes_in c.args.plan.now).jobs in
-      let fin = sym (c.is_finished.ensures none) ∙ c.if-is_finished.true in
-      rw (is, fin) (rw (c.quiet.ensures, c.go_to.ensures))
+    let none = pos (sizes_in c.args.plan.now).jobs in
+    let fin = sym (c.is_finished.ensures none) ∙ c.if-is_finished.true in
+    rw (is, fin) (rw (c.quiet.ensures, c.go_to.ensures))
 
 pub returns-clause-does : goal.returns-clause-does
 unfolding Does item
 returns-clause-does c =
     λ x is.
-            let none = pos (sizes_in c.args.plan.now).jobs in
-      let fin = sym (c.is_finished.ensures none) ∙ c.if-is_finished.false in
-      rw (is, fin) (rw (c.quiet-2.ensures, c.go_to-2.ensures))
+    let none = pos (sizes_in c.args.plan.now).jobs in
+    let fin = sym (c.is_finished.ensures none) ∙ c.if-is_finished.false in
+    rw (is, fin) (rw (c.quiet-2.ensures, c.go_to-2.ensures))

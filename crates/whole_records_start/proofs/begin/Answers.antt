@@ -5,4 +5,4 @@ use borrow.Author.Rules.{rules}
 use Rattle.whole_records_start.proofs.begin.Goals as goal
 
 pub open-requires : goal.open-requires
-open-requires c =             (sound (c.read_plan-verdict.ensures.accepts _ c.in-Accepted.is), c.requires.1)
+open-requires c = (sound (c.read_plan-verdict.ensures.accepts _ c.in-Accepted.is), c.requires.1)

@@ -20,7 +20,7 @@ pub run_notes-ran-requires : goal.run_notes-ran-requires
 run_notes-ran-requires c =
     let known : Sound (plan_in c.args.plan.now)
     × (Holding c.args.parsed.notes c.args.notes.now c.args.parsed.entries
-    × (length c.args.notes.now ≡ note_places)) =     let text = c.requires.0 in
+    × (length c.args.notes.now ≡ note_places)) = let text = c.requires.0 in
     let reads = c.requires.1 in (
       sound-plan text c.args.plan.now c.args.notes.now c.args.parsed c.args.lines reads,
       (
@@ -35,7 +35,7 @@ pub overflow_add-ran : goal.overflow_add-ran
 overflow_add-ran c =
     let known : Sound (plan_in c.args.plan.now)
     × (Holding c.args.parsed.notes c.args.notes.now c.args.parsed.entries
-    × (length c.args.notes.now ≡ note_places)) =     let text = c.requires.0 in
+    × (length c.args.notes.now ≡ note_places)) = let text = c.requires.0 in
     let reads = c.requires.1 in (
       sound-plan text c.args.plan.now c.args.notes.now c.args.parsed c.args.lines reads,
       (
@@ -51,7 +51,7 @@ pub write_after-requires : goal.write_after-requires
 write_after-requires c =
     let known : Sound (plan_in c.args.plan.now)
     × (Holding c.args.parsed.notes c.args.notes.now c.args.parsed.entries
-    × (length c.args.notes.now ≡ note_places)) =     let text = c.requires.0 in
+    × (length c.args.notes.now ≡ note_places)) = let text = c.requires.0 in
     let reads = c.requires.1 in (
       sound-plan text c.args.plan.now c.args.notes.now c.args.parsed c.args.lines reads,
       (
@@ -63,10 +63,10 @@ write_after-requires c =
 
 pub returns : goal.returns
 returns c text reads =
-    let end-so :         let r = c.run_notes-ran.result in
+    let end-so : let r = c.run_notes-ran.result in
     c.end_of-end.result
     ≡ end_of (halt_of r.halt) (r.entries + 1)
-    (line_in (listed_in c.args.parsed.notes c.args.notes.now) r.entries) c.args.lines =     let r = c.run_notes-ran.result in
+    (line_in (listed_in c.args.parsed.notes c.args.notes.now) r.entries) c.args.lines = let r = c.run_notes-ran.result in
     c.end_of-end.ensures
     ∙ ap (λ n. end_of (halt_of r.halt) (r.entries + 1) n c.args.lines) c.line_in-line.ensures in
     same_outcome
