@@ -13,7 +13,7 @@ use Rattle.read_tables.specs.PlanTable.{sizes_in, count_at, plan_in}
 use Rattle.read_tables.proofs.PlanIn.{count-in, move_in}
 use Rattle.spec_machine.specs.declared.Stage.{Stage}
 use Rattle.spec_machine.specs.declared.Place.{Place}
-use Rattle.spec_machine.specs.Moves.{read, accesses, word_of, moves, move, access, block, offset, onward}
+use Rattle.spec_machine.specs.Moves.{read, accesses, word_of, moves, move, block, offset, onward}
 use Rattle.spec_machine.specs.Working.{goto, with_access, with_word}
 use Rattle.spec_machine.specs.Steps.{Shared, stage, quiet}
 use Rattle.spec_machine.specs.Ranges.{most_numbers}

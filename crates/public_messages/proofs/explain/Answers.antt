@@ -3,9 +3,7 @@
 use Prim.Native.Nat.{◌≤◌, ◌<◌}
 use native.Mathlib.Omega.{arith}
 use lib.ListN.{length}
-use Rattle.public_messages.specs.Messages.{meanings}
-use Rattle.public_messages.proofs.Sentences.{accepted-silent, past-silent, refused-said}
-use borrow.Author.Rules.{rules}
+use Rattle.public_messages.proofs.Sentences.{refused-said}
 use Rattle.public_messages.proofs.explain.Goals as goal
 
 pub returns-clause-buffer_after : goal.returns-clause-buffer_after

@@ -1,5 +1,4 @@
 -- `put_meaning` writes the sentence of its number. Assumes nothing.
-use borrow.Author.Rules.{rules}
 use Rattle.public_messages.proofs.Sentences.{has_room, said}
 use Rattle.public_messages.proofs.put_meaning.Goals as goal
 

@@ -1,6 +1,5 @@
 -- `put_refusal` writes its parts one behind the other. Assumes nothing.
 use Rattle.report_bytes.proofs.Writes.{then}
-use borrow.Author.Rules.{rules}
 use Rattle.public_messages.proofs.put_refusal.Goals as goal
 
 pub returns : goal.returns

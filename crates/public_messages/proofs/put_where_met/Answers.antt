@@ -2,7 +2,6 @@
 use native.Mathlib.Omega.{arith}
 use borrow.Author.Tests.{eq-eqb, ne_eqb}
 use Rattle.report_bytes.proofs.Writes.{nothing, then, widen}
-use borrow.Author.Rules.{rules}
 use Rattle.public_messages.proofs.put_where_met.Goals as goal
 
 pub returns-then-line-eq0 : goal.returns-then-line-eq0

@@ -7,7 +7,7 @@ use Rattle.spec_format.specs.declared.Form.{Form}
 use Rattle.spec_format.specs.Reading.{reading, verdict_of}
 use Rattle.spec_report_length.specs.Longest.{longest_end}
 use Rattle.public_reference.specs.Answers.{answer_of}
-use Rattle.public_printing.proofs.PrintedWhole.{number-low, line_low, check_done}
+use Rattle.public_printing.proofs.PrintedWhole.{line_low, check_done}
 use borrow.Author.Rules.{rules}
 use Rattle.public_printing.proofs.print_check.Goals as goal
 

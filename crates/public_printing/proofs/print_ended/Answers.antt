@@ -4,8 +4,7 @@ use native.Mathlib.Omega.{arith}
 use Rattle.spec_report.specs.Report.{report_end}
 use Rattle.report_bytes.proofs.Writes.{renamed}
 use Rattle.report_lines.specs.ReportLines.{end_bytes}
-use Rattle.public_printing.proofs.PrintedWhole.{line_small, entry-small, bytes-printed, last-printed}
-use borrow.Author.Rules.{rules}
+use Rattle.public_printing.proofs.PrintedWhole.{bytes-printed, last-printed}
 use Rattle.public_printing.proofs.print_ended.Goals as goal
 
 pub returns-then-written-gt0 : goal.returns-then-written-gt0

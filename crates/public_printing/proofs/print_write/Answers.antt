@@ -3,7 +3,6 @@ use native.Mathlib.Omega.{arith}
 use Rattle.spec_plan_text.specs.Writing.{write_text}
 use Rattle.public_printing.specs.Printing.{Finished}
 use Rattle.public_printing.proofs.PrintableTexts.{write-printable}
-use borrow.Author.Rules.{rules}
 use Rattle.public_printing.proofs.print_write.Goals as goal
 
 pub print_ended-requires : goal.print_ended-requires

@@ -1,11 +1,9 @@
 -- `check` answers the verdict of what the reader gives. Assumes nothing.
 use Prim.Native.Nat.{ℕ}
-use mathlib.Core.Path.{refl, ◌∙◌, ap}
+use mathlib.Core.Path.{refl}
 use lib.ListN.{length-replicate}
-use Rattle.spec_format.specs.Reading.{verdict_of}
 use Rattle.read_tables.specs.PlanTable.{empty_plan}
 use Rattle.read_tables.specs.NoteTable.{note_places}
-use Rattle.read_text.proofs.Verdicts.{verdict-kept}
 use Rattle.public_reference.proofs.check.Goals as goal
 
 pub read-parsed-requires : goal.read-parsed-requires

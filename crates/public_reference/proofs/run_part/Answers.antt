@@ -1,10 +1,6 @@
 -- `run_part` cuts the buffer behind the report that `run` has written. Assumes nothing.
-use mathlib.Core.Path.{refl, sym}
-use lib.ListN.{length}
-use lib.Seq.{length-take-le}
-use Rattle.spec_report.specs.Outcomes.{run_text, handed, left}
-use Rattle.spec_report.proofs.Buffers.{handed-fits, left-length, handed-first}
-use borrow.Author.Rules.{rules}
+use Rattle.spec_report.specs.Outcomes.{run_text}
+use Rattle.spec_report.proofs.Buffers.{handed-first}
 use Rattle.public_reference.proofs.run_part.Goals as goal
 
 pub returns-clause-result_value : goal.returns-clause-result_value

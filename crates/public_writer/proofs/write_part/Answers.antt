@@ -1,11 +1,6 @@
 -- `write_part` cuts the buffer behind what `write` has written. Assumes nothing.
-use mathlib.Core.Path.{refl, sym}
-use lib.ListN.{length}
-use lib.Seq.{length-take-le}
-use Rattle.spec_report.specs.Outcomes.{handed, left}
 use Rattle.spec_plan_text.specs.Writing.{write_text}
-use Rattle.spec_report.proofs.Buffers.{handed-fits, left-length, handed-first}
-use borrow.Author.Rules.{rules}
+use Rattle.spec_report.proofs.Buffers.{handed-first}
 use Rattle.public_writer.proofs.write_part.Goals as goal
 
 pub returns-clause-result_value : goal.returns-clause-result_value

@@ -1,15 +1,10 @@
 -- `entry_line` notes an entry with how many times it comes, and its line. Assumes nothing.
-use Prim.Native.Nat.{ℕ, ◌+◌, ◌≤◌, ◌<◌}
 use mathlib.Core.Path.{◌≡◌, sym, ◌∙◌, ap}
 use mathlib.Core.Option.{some}
 use native.Mathlib.Omega.{arith}
-use borrow.Author.Tests.{le-leb, lt-leb, lt-ltb}
-use Rattle.spec_format.specs.declared.Fault.{Fault}
 use Rattle.spec_format.specs.ParsedLines.{entry}
 use Rattle.read_line_promises.specs.Promises.{entry_directive}
-use Rattle.read_line_promises.proofs.Judged.{entry_fault}
-use Rattle.read_line_promises.proofs.LineKinds.{malformed, bad-entry, entry_read}
-use borrow.Author.Rules.{rules}
+use Rattle.read_line_promises.proofs.LineKinds.{entry_read}
 use Rattle.read_entry_lines.proofs.entry_line.Goals as goal
 
 pub returns : goal.returns

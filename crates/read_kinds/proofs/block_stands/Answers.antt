@@ -4,7 +4,6 @@ use mathlib.Core.Path.{subst}
 use Rattle.spec_format.specs.declared.Sizes.{Sizes}
 use borrow.Author.Tests.{lt-ltb, le-ltb}
 use Rattle.read_line_promises.proofs.Lacking.{lacks-jobs}
-use borrow.Author.Rules.{rules}
 use Rattle.read_kinds.proofs.block_stands.Goals as goal
 
 pub returns-then-p-sizes : goal.returns-then-p-sizes

@@ -1,5 +1,4 @@
 -- `can_stand` meets its contract, by what the functions for the kinds ensure. Assumes nothing.
-use borrow.Author.Rules.{rules}
 use Rattle.read_kinds.proofs.can_stand.Goals as goal
 
 pub returns-in-Job : goal.returns-in-Job

@@ -3,7 +3,6 @@ use mathlib.Core.Path.{sym, ◌∙◌, ap}
 use lib.Dec.{ltb}
 use Rattle.spec_format.specs.declared.Sizes.{Sizes}
 use Rattle.read_line_promises.proofs.Lacking.{lacks-jobs}
-use borrow.Author.Rules.{rules}
 use Rattle.read_kinds.proofs.job_stands.Goals as goal
 
 pub returns : goal.returns

@@ -1,6 +1,5 @@
 -- `move_stands` meets its contract, by what `update_stands` ensures. Assumes nothing.
 use Rattle.spec_format.proofs.Tabulated.{length-tabulate}
-use borrow.Author.Rules.{rules}
 use Rattle.read_kinds.proofs.move_stands.Goals as goal
 
 pub returns-then-update_stands : goal.returns-then-update_stands

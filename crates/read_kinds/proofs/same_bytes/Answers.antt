@@ -1,16 +1,11 @@
 -- `same_bytes` meets its contract. The loop's invariant: the slices are the same just where they are from i on.
 -- Assumes nothing.
-use Prim.Native.Nat.{ℕ, ◌+◌, ◌-◌, ◌≤◌, ◌<◌}
-use mathlib.Core.Path.{◌≡◌, refl, sym, ◌∙◌}
-use mathlib.Core.Bool.{false, ◌&&◌, and-false}
+use Prim.Native.Nat.{ℕ}
+use mathlib.Core.Path.{◌≡◌, refl, sym}
+use mathlib.Core.Bool.{false, and-false}
 use mathlib.Core.List.{List, [], ◌∷◌}
 use native.Mathlib.Omega.{arith}
-use borrow.Author.Rules.{rules}
-use borrow.Author.Tests.{eq-eqb, ne_eqb}
-use lib.Dec.{eqb}
-use lib.ListN.{length, get_or, drop}
-use lib.Seq.{drop-length}
-use Rattle.read_fields.proofs.FieldPlaces.{drop-next}
+use lib.ListN.{length}
 use Rattle.spec_format.specs.Kinds.{same_bytes}
 use Rattle.read_kinds.proofs.same_bytes.Goals as goal
 

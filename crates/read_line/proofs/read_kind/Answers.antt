@@ -4,8 +4,7 @@ use Rattle.read_tables.specs.PlanTable.{sizes_in}
 use Rattle.read_line_promises.specs.declared.MoveKind.{MoveKind}
 use Rattle.read_line_promises.specs.declared.EntryKind.{EntryKind}
 use Rattle.read_line_promises.specs.Promises.{update_directive, move_directive, entry_directive}
-use Rattle.read_line.proofs.Arms.{at-kind, at-three, says-update, says-move, says-call, at-unknown, standing-at}
-use borrow.Author.Rules.{rules}
+use Rattle.read_line.proofs.Arms.{at-kind, at-three, says-update, says-move, says-call}
 use Rattle.read_line.proofs.read_kind.Goals as goal
 
 pub returns-in-Plan : goal.returns-in-Plan

@@ -4,13 +4,11 @@ use mathlib.Core.Bool.{true, false}
 use mathlib.Core.Path.{◌≡◌, sym, ◌∙◌, ap}
 use native.Mathlib.Omega.{arith}
 use lib.ListN.{take}
-use lib.Seq.{length-take-le}
 use Rattle.read_fields.specs.FieldPlaces.{place_of}
 use Rattle.spec_format.specs.Kinds.{kind_of}
 use Rattle.spec_format.specs.Faults.{is_unknown, stands}
 use Rattle.read_line_promises.specs.Promises.{draft_of}
 use Rattle.read_line.proofs.Arms.{done-unknown, done-misplaced, done-read, standing}
-use borrow.Author.Rules.{rules}
 use Rattle.read_line.proofs.read_line.Goals as goal
 
 pub returns-then-is_unknown : goal.returns-then-is_unknown

@@ -1,15 +1,13 @@
 -- `block_line` reads the words of a block into their places. Assumes nothing.
-use Prim.Native.Nat.{◌+◌, ◌-◌, ◌*◌, ◌≤◌}
-use mathlib.Core.Path.{◌≡◌, sym, ap, subst}
-use native.Mathlib.Nat.{mul-le-mul, add-mul}
+use Prim.Native.Nat.{◌+◌, ◌-◌, ◌*◌}
+use mathlib.Core.Path.{◌≡◌, subst}
 use native.Mathlib.Omega.{arith}
 use Rattle.read_fields.specs.FieldPlaces.{fields_at}
 use Rattle.spec_format.specs.declared.Kind.{Kind}
 use Rattle.spec_format.specs.declared.Sizes.{Sizes}
 use Rattle.read_tables.specs.PlanTable.{words_at, sizes_in}
-use Rattle.read_line_promises.proofs.LineKinds.{bad-item, good-item, malformed, block_read}
+use Rattle.read_line_promises.proofs.LineKinds.{good-item, block_read}
 use Rattle.read_plan_lines.specs.PartRead.{WordsRead}
-use borrow.Author.Rules.{rules}
 use Rattle.read_plan_lines.proofs.block_line.Goals as goal
 
 pub returns : goal.returns

@@ -1,21 +1,17 @@
 -- `job_line` reads and judges a job, and puts it behind the earlier ones. Assumes nothing.
-use Prim.Native.Nat.{◌<◌}
 use mathlib.Core.Path.{◌≡◌, sym, ap₂}
 use mathlib.Core.Option.{some}
-use native.Mathlib.Omega.{arith}
-use borrow.Author.Tests.{le-leb, lt-leb, lt-ltb, le-ltb}
+use borrow.Author.Tests.{lt-leb, le-ltb}
 use lib.Dec.{leb}
 use lib.ListN.{get_or}
 use Rattle.spec_text.specs.Lines.{numbers}
 use Rattle.read_fields.specs.FieldPlaces.{fields_at}
-use Rattle.spec_format.specs.declared.Fault.{Fault}
 use Rattle.spec_format.specs.declared.Kind.{Kind}
 use Rattle.spec_format.specs.declared.Sizes.{Sizes}
 use Rattle.spec_format.specs.declared.Job.{Job}
 use Rattle.spec_format.specs.ParsedLines.{directive_of, job}
 use Rattle.read_tables.specs.PlanTable.{sizes_in}
-use Rattle.read_line_promises.proofs.LineKinds.{malformed, bad-job, job_read}
-use borrow.Author.Rules.{rules}
+use Rattle.read_line_promises.proofs.LineKinds.{job_read}
 use Rattle.read_plan_lines.proofs.job_line.Goals as goal
 
 pub returns : goal.returns

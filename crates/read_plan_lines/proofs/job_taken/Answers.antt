@@ -1,15 +1,11 @@
 -- `job_taken` searches the earlier jobs for one of the same card and priority. Assumes nothing.
-use Prim.Native.Nat.{◌≤◌, ◌-◌}
-use mathlib.Core.Path.{◌≡◌, refl, sym, ◌∙◌, ap₂}
-use mathlib.Core.Bool.{Bool, false, ◌&&◌}
+use mathlib.Core.Path.{◌≡◌, sym, ◌∙◌, ap₂}
+use mathlib.Core.Bool.{Bool, ◌&&◌}
 use lib.Dec.{eqb}
-use borrow.Author.Rules.{rules}
 use native.Mathlib.Omega.{arith}
 use Rattle.spec_format.specs.declared.Job.{Job}
-use Rattle.spec_format.specs.Plan.{tabulate}
-use Rattle.spec_format.specs.Faults.{taken}
 use Rattle.read_tables.specs.PlanTable.{job_at}
-use Rattle.read_line_promises.proofs.Search.{found, none_more}
+use Rattle.read_line_promises.proofs.Search.{found}
 use Rattle.read_plan_lines.proofs.job_taken.Goals as goal
 
 -- Whether a job is of this card and priority.

@@ -1,14 +1,9 @@
 use Prim.Native.Nat.{◌≤◌, ◌-◌}
-use mathlib.Core.Path.{◌≡◌, refl, sym, ◌∙◌, ap₂}
-use mathlib.Core.Bool.{Bool, false, ◌&&◌}
-use lib.Dec.{eqb}
-use borrow.Author.Rules.{rules}
-use native.Mathlib.Omega.{arith}
-use Rattle.spec_format.specs.declared.Job.{Job}
+use mathlib.Core.Path.{◌≡◌}
+use mathlib.Core.Bool.{false}
 use Rattle.spec_format.specs.Plan.{tabulate}
 use Rattle.spec_format.specs.Faults.{taken}
 use Rattle.read_tables.specs.PlanTable.{job_at}
-use Rattle.read_line_promises.proofs.Search.{found, none_more}
 use Rattle.read_plan_lines.proofs.job_taken.Given as goal
 
 abbrev pub invariant-loop-i : goal.invariant-loop-i

@@ -2,15 +2,13 @@
 use mathlib.Core.Path.{◌≡◌, sym, ◌∙◌}
 use mathlib.Core.List.{[], ◌∷◌}
 use mathlib.Core.Option.{some}
-use borrow.Author.Tests.{not-true, not-false}
 use Rattle.spec_text.specs.Lines.{numbers}
 use Rattle.read_fields.specs.FieldPlaces.{fields_at}
 use Rattle.spec_format.specs.declared.Kind.{Kind}
 use Rattle.spec_format.specs.declared.Sizes.{Sizes}
 use Rattle.spec_format.specs.ParsedLines.{directive_of, plan}
 use Rattle.read_tables.proofs.Puts.{put-alike}
-use Rattle.read_line_promises.proofs.LineKinds.{good-item, malformed, bad-size, plan-read}
-use borrow.Author.Rules.{rules}
+use Rattle.read_line_promises.proofs.LineKinds.{good-item, plan-read}
 use Rattle.read_plan_lines.proofs.plan_line.Goals as goal
 
 pub returns : goal.returns

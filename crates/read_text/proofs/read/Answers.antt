@@ -1,15 +1,11 @@
 -- `read` reads line after line: what is left to read comes to the same as the whole. Assumes nothing.
-use Prim.Native.Nat.{◌-◌, ◌≤◌}
+use Prim.Native.Nat.{◌≤◌}
 use mathlib.Core.Path.{◌≡◌, sym, ◌∙◌}
-use native.Mathlib.Omega.{arith}
 use lib.ListN.{length}
-use Rattle.spec_text.specs.Lines.{lines}
-use Rattle.spec_format.specs.Reading.{blank, read_lines}
-use Rattle.read_line_promises.specs.Promises.{ReadTables, tables_read, Consistent}
+use Rattle.read_line_promises.specs.Promises.{ReadTables, tables_read}
 use Rattle.read_text.specs.declared.Advance.{Advance}
-use Rattle.read_text.specs.Cursors.{Placed, rest, Advanced}
+use Rattle.read_text.specs.Cursors.{Advanced}
 use Rattle.read_text.proofs.ReadOn.{starts, too_long, gives-refusal, gives-early, gives-plan, same-advance}
-use borrow.Author.Rules.{rules}
 use Rattle.read_text.proofs.read.Goals as goal
 
 pub returns-then-text-gt65536 : goal.returns-then-text-gt65536

@@ -1,14 +1,10 @@
-use Prim.Native.Nat.{◌-◌, ◌≤◌}
-use mathlib.Core.Path.{◌≡◌, sym, ◌∙◌}
-use native.Mathlib.Omega.{arith}
+use Prim.Native.Nat.{◌-◌}
+use mathlib.Core.Path.{◌≡◌}
 use lib.ListN.{length}
 use Rattle.spec_text.specs.Lines.{lines}
 use Rattle.spec_format.specs.Reading.{blank, read_lines}
-use Rattle.read_line_promises.specs.Promises.{ReadTables, tables_read, Consistent}
-use Rattle.read_text.specs.declared.Advance.{Advance}
-use Rattle.read_text.specs.Cursors.{Placed, rest, Advanced}
-use Rattle.read_text.proofs.ReadOn.{starts, too_long, gives-refusal, gives-early, gives-plan, same-advance}
-use borrow.Author.Rules.{rules}
+use Rattle.read_line_promises.specs.Promises.{Consistent}
+use Rattle.read_text.specs.Cursors.{Placed, rest}
 use Rattle.read_text.proofs.read.Given as goal
 
 abbrev pub invariant-loop-c : goal.invariant-loop-c

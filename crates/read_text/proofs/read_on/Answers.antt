@@ -4,7 +4,6 @@ use mathlib.Core.Path.{sym, ◌∙◌}
 use native.Mathlib.Omega.{arith}
 use lib.ListN.{length}
 use Rattle.read_text.proofs.ReadOn.{open-refused, line_refused, line_read, same_answer}
-use borrow.Author.Rules.{rules}
 use Rattle.read_text.proofs.read_on.Goals as goal
 
 pub returns-then-end-text : goal.returns-then-end-text

@@ -9,15 +9,14 @@ use lib.ListN.{length}
 use Rattle.spec_format.specs.declared.Fault.{Fault}
 use Rattle.spec_format.specs.declared.Sizes.{Sizes}
 use Rattle.spec_format.specs.declared.Move.{Move}
-use Rattle.spec_format.specs.Plan.{block_of, target, named, blocks_written, tabulate}
+use Rattle.spec_format.specs.Plan.{block_of, named, blocks_written, tabulate}
 use Rattle.spec_format.specs.Faults.{some_from}
 use Rattle.spec_format.specs.ParsedLines.{move}
 use Rattle.read_tables.specs.PlanTable.{sizes_in, updates_in, count_at, target_at, update_at}
 use Rattle.read_line_promises.specs.Promises.{Consistent, move_directive, writes_to}
-use Rattle.read_line_promises.proofs.NamedWords.{below, some_words, blocks_more}
-use Rattle.read_line_promises.proofs.LineKinds.{malformed, bad-move, move_read, count_is}
+use Rattle.read_line_promises.proofs.NamedWords.{blocks_more}
+use Rattle.read_line_promises.proofs.LineKinds.{bad-move, move_read, count_is}
 use Rattle.read_line_promises.proofs.LineKinds.{judged-many, judged-past, judged-blocks, judged-none}
-use borrow.Author.Rules.{rules}
 use Rattle.read_update_lines.proofs.move_line.Goals as goal
 
 pub returns-then-count-ge16 : goal.returns-then-count-ge16

@@ -1,17 +1,16 @@
 -- `update_line` judges an update by the rows 5 and 17, and starts it without moves. Assumes nothing.
-use Prim.Native.Nat.{ℕ, ◌≤◌, ◌<◌}
+use Prim.Native.Nat.{ℕ, ◌<◌}
 use mathlib.Core.Path.{◌≡◌, sym, ◌∙◌, ap}
 use mathlib.Core.List.{List}
 use mathlib.Core.Option.{some}
 use native.Mathlib.Omega.{arith}
-use borrow.Author.Tests.{le-leb, lt-leb, ne_eqb}
-use borrow.Author.Rules.{rules}
+use borrow.Author.Tests.{lt-leb, ne_eqb}
 use Rattle.spec_format.specs.declared.Fault.{Fault}
 use Rattle.spec_format.specs.ParsedLines.{update}
 use Rattle.read_tables.specs.PlanTable.{updates_in}
 use Rattle.read_line_promises.specs.Promises.{update_directive}
 use Rattle.read_line_promises.proofs.Judged.{update_fault}
-use Rattle.read_line_promises.proofs.LineKinds.{malformed, bad-update, update-read}
+use Rattle.read_line_promises.proofs.LineKinds.{bad-update, update-read}
 use Rattle.read_update_lines.proofs.update_line.Goals as goal
 
 -- or has another number than the next.

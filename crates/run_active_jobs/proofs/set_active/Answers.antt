@@ -2,7 +2,6 @@
 use native.Mathlib.Omega.{arith}
 use Rattle.step_cells.specs.CellTable.{active_at}
 use Rattle.step_cells.proofs.CellPlaces.{places-in}
-use borrow.Author.Rules.{rules}
 use Rattle.run_active_jobs.proofs.set_active.Goals as goal
 
 pub returns : goal.returns

@@ -1,8 +1,7 @@
 -- `clear` clears one mark after the other. Assumes nothing.
-use Prim.Native.Nat.{◌-◌, ◌≤◌}
 use mathlib.Core.Path.{◌≡◌}
 use native.Mathlib.Omega.{arith}
-use Rattle.run_changes.proofs.Clearing.{Clears, clear_none, clear-more, clear-all}
+use Rattle.run_changes.proofs.Clearing.{clear-all}
 use Rattle.run_changes.proofs.clear.Goals as goal
 
 pub returns : goal.returns

@@ -1,7 +1,5 @@
 use Prim.Native.Nat.{◌-◌, ◌≤◌}
-use mathlib.Core.Path.{◌≡◌}
-use native.Mathlib.Omega.{arith}
-use Rattle.run_changes.proofs.Clearing.{Clears, clear_none, clear-more, clear-all}
+use Rattle.run_changes.proofs.Clearing.{Clears}
 use Rattle.run_changes.proofs.clear.Given as goal
 
 abbrev pub invariant-loop-b : goal.invariant-loop-b

@@ -1,10 +1,10 @@
 -- `copy_words` goes upwards: the words below i are copied, and the next one is still as it was. Assumes nothing.
-use Prim.Native.Nat.{◌+◌, ◌-◌, ◌≤◌}
-use mathlib.Core.Path.{◌≡◌, sym, ◌∙◌}
+use Prim.Native.Nat.{◌+◌}
+use mathlib.Core.Path.{◌≡◌, ◌∙◌}
 use native.Mathlib.Numerals.{add-one}
 use native.Mathlib.Omega.{arith}
 use lib.ListN.{length, drop, length-drop, length-set}
-use lib.Seq.{paste, paste-zero, paste-suc, get_or-drop}
+use lib.Seq.{paste-suc, get_or-drop}
 use Rattle.run_changes.proofs.CopiedWords.{still}
 use Rattle.run_changes.proofs.copy_words.Goals as goal
 

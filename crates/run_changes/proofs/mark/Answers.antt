@@ -1,7 +1,6 @@
 -- `mark` stores the mark and then the number. Assumes nothing.
 use native.Mathlib.Omega.{arith}
 use Rattle.step_cells.proofs.Views.{marks}
-use borrow.Author.Rules.{rules}
 use Rattle.run_changes.proofs.mark.Goals as goal
 
 pub returns : goal.returns

@@ -1,11 +1,6 @@
 -- `published` puts one number after the other into the row. Assumes nothing.
-use Prim.Native.Nat.{◌-◌, ◌≤◌}
-use mathlib.Core.Path.{◌≡◌, refl}
 use native.Mathlib.Omega.{arith}
-use lib.ListN.{length, get_or}
-use borrow.Author.Rules.{rules}
-use Rattle.spec_text.specs.FirstPlaces.{in_first_places}
-use Rattle.spec_format.specs.Plan.{tabulate}
+use lib.ListN.{get_or}
 use Rattle.step_cells.specs.CellTable.{places, curr_at}
 use Rattle.run_changes.proofs.PutOneByOne.{one-more-of}
 use Rattle.run_changes.proofs.published.Goals as goal

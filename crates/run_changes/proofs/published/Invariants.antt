@@ -1,12 +1,9 @@
 use Prim.Native.Nat.{◌-◌, ◌≤◌}
-use mathlib.Core.Path.{◌≡◌, refl}
-use native.Mathlib.Omega.{arith}
+use mathlib.Core.Path.{◌≡◌}
 use lib.ListN.{length, get_or}
-use borrow.Author.Rules.{rules}
 use Rattle.spec_text.specs.FirstPlaces.{in_first_places}
 use Rattle.spec_format.specs.Plan.{tabulate}
 use Rattle.step_cells.specs.CellTable.{places, curr_at}
-use Rattle.run_changes.proofs.PutOneByOne.{one-more-of}
 use Rattle.run_changes.proofs.published.Given as goal
 
 abbrev pub invariant-loop-i : goal.invariant-loop-i

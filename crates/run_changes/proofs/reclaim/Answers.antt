@@ -1,14 +1,13 @@
 -- `reclaim` goes through the row: the numbers replaced so far stand in the copy list. Assumes nothing.
-use Prim.Native.Nat.{ℕ, ◌-◌, ◌≤◌, ◌<◌}
-use mathlib.Core.Logic.{⊎_elim}
-use mathlib.Core.Path.{◌≡◌, refl, ap, sym, ◌∙◌}
-use mathlib.Core.List.{List, [], ◌∷◌}
+use Prim.Native.Nat.{ℕ, ◌<◌}
+use mathlib.Core.Path.{◌≡◌, ap, sym, ◌∙◌}
+use mathlib.Core.List.{[], ◌∷◌}
 use native.Mathlib.Omega.{arith}
 use lib.ListN.{length, get_or, length-append}
 use Rattle.spec_machine.specs.Steps.{replaced}
 use Rattle.step_cells.specs.CellTable.{places, dirty_at}
 use Rattle.run_changes.proofs.PutOneByOne.{replaced-written, replaced-unwritten, has-place}
-use Rattle.run_changes.proofs.Reclaiming.{Puts, puts_none, puts-more, puts-marks, puts-all}
+use Rattle.run_changes.proofs.Reclaiming.{puts-more, puts-marks, puts-all}
 use Rattle.run_changes.proofs.reclaim.Goals as goal
 use Rattle.run_changes.proofs.reclaim.Goals.{then-dirty-eq2, else-dirty-eq2}
 

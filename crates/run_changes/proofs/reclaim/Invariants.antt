@@ -1,13 +1,10 @@
-use Prim.Native.Nat.{ℕ, ◌-◌, ◌≤◌, ◌<◌}
-use mathlib.Core.Logic.{⊎_elim}
-use mathlib.Core.Path.{◌≡◌, refl, ap, sym, ◌∙◌}
-use mathlib.Core.List.{List, [], ◌∷◌}
-use native.Mathlib.Omega.{arith}
-use lib.ListN.{length, get_or, length-append}
+use Prim.Native.Nat.{ℕ, ◌-◌, ◌≤◌}
+use mathlib.Core.Path.{◌≡◌}
+use mathlib.Core.List.{List}
+use lib.ListN.{length, get_or}
 use Rattle.spec_machine.specs.Steps.{replaced}
 use Rattle.step_cells.specs.CellTable.{places, dirty_at}
-use Rattle.run_changes.proofs.PutOneByOne.{replaced-written, replaced-unwritten, has-place}
-use Rattle.run_changes.proofs.Reclaiming.{Puts, puts_none, puts-more, puts-marks, puts-all}
+use Rattle.run_changes.proofs.Reclaiming.{Puts}
 use Rattle.run_changes.proofs.reclaim.Given as goal
 
 -- The numbers replaced by the first i listed blocks.

@@ -1,7 +1,6 @@
 -- `judge` meets its contract. Assumes nothing.
 use Rattle.spec_machine.specs.Entries.{judge as judgeEntry}
 use borrow.Author.Tests.{eq-eqb, ne_eqb}
-use borrow.Author.Rules.{rules}
 use Rattle.run_judge.proofs.judge.Goals as goal
 
 pub returns-then-e-eq0 : goal.returns-then-e-eq0

@@ -12,7 +12,6 @@ use Rattle.spec_machine.specs.declared.Judgement.{Judgement}
 use Rattle.spec_machine.specs.Places.{is_active}
 use Rattle.spec_machine.specs.Machine.{Machine, work_of}
 use Rattle.spec_machine.specs.Entries.{judge_call}
-use borrow.Author.Rules.{rules}
 use Rattle.run_judge.proofs.judge_call.Goals as goal
 
 -- A call of a job and an update that the plan has, of a job that is active or not.

@@ -1,6 +1,5 @@
 -- `judge_going` meets its contract. Assumes nothing.
-use borrow.Author.Tests.{eq-eqb, ne_eqb}
-use borrow.Author.Rules.{rules}
+use borrow.Author.Tests.{eq-eqb}
 use Rattle.run_judge.proofs.judge_going.Goals as goal
 
 pub returns-then-halt-eq0 : goal.returns-then-halt-eq0

@@ -1,11 +1,8 @@
 -- `judge_step` meets its contract. Assumes nothing.
-use mathlib.Core.Path.{sym, ◌∙◌}
+use mathlib.Core.Path.{◌∙◌}
 use native.Mathlib.Omega.{arith}
-use borrow.Author.Tests.{le-leb}
-use Rattle.read_tables.specs.PlanTable.{sizes_in}
 use Rattle.step_cells.specs.Book.{book_of}
-use Rattle.run_judge.proofs.RunsOn.{step-refused, step-runs}
-use borrow.Author.Rules.{rules}
+use Rattle.run_judge.proofs.RunsOn.{step-refused}
 use Rattle.run_judge.proofs.judge_step.Goals as goal
 
 pub returns-then-p-jobs : goal.returns-then-p-jobs

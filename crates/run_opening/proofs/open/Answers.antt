@@ -4,7 +4,6 @@ use native.Mathlib.Omega.{arith}
 use mir.Syntax.{w32}
 use mir.Facts.{to_z_pos}
 use Rattle.run_opening.proofs.OpeningTables.{opened}
-use borrow.Author.Rules.{rules}
 use Rattle.run_opening.proofs.open.Goals as goal
 
 pub returns : goal.returns

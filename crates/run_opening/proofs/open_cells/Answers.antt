@@ -1,12 +1,7 @@
 -- `open_cells` fills the parts of the cells. Assumes nothing.
-use Prim.Native.Nat.{ℕ, ◌-◌, ◌*◌, ◌≤◌}
-use mathlib.Core.Path.{◌≡◌, ◌∙◌}
-use native.Mathlib.Nat.{mul-le-mul}
+use mathlib.Core.Path.{◌≡◌}
 use native.Mathlib.Omega.{arith}
-use lib.ListN.{length}
-use borrow.Author.Rules.{rules}
-use Rattle.step_cells.specs.CellTable.{cell_places}
-use Rattle.run_opening.proofs.OpenedParts.{Copies, copies-none, copies-more, empty-long, parts}
+use Rattle.run_opening.proofs.OpenedParts.{copies-more, parts}
 use Rattle.run_opening.proofs.open_cells.Goals as goal
 
 pub loop-p-preserved : goal.loop-p-preserved

@@ -1,11 +1,8 @@
-use Prim.Native.Nat.{ℕ, ◌-◌, ◌*◌, ◌≤◌}
-use mathlib.Core.Path.{◌≡◌, ◌∙◌}
-use native.Mathlib.Nat.{mul-le-mul}
-use native.Mathlib.Omega.{arith}
+use Prim.Native.Nat.{ℕ, ◌-◌, ◌≤◌}
+use mathlib.Core.Path.{◌≡◌}
 use lib.ListN.{length}
-use borrow.Author.Rules.{rules}
 use Rattle.step_cells.specs.CellTable.{cell_places}
-use Rattle.run_opening.proofs.OpenedParts.{Copies, copies-none, copies-more, empty-long, parts}
+use Rattle.run_opening.proofs.OpenedParts.{Copies}
 use Rattle.run_opening.proofs.open_cells.Given as goal
 
 abbrev pub invariant-loop-p : goal.invariant-loop-p

@@ -1,13 +1,10 @@
 -- `open_statuses` fills seventeen statuses, one after another. Assumes nothing.
-use Prim.Native.Nat.{ℕ, ◌-◌, ◌≤◌}
-use mathlib.Core.Path.{◌≡◌, refl, ◌∙◌}
+use mathlib.Core.Path.{◌∙◌}
 use native.Mathlib.Omega.{arith}
-use lib.IntN.{ℤ}
-use lib.ListN.{length, length-set}
+use lib.ListN.{length-set}
 use mir.Syntax.{w32}
 use mir.Val.{of_z, to_z}
-use mir.Facts.{to_z-of_z}
-use Rattle.run_opening.proofs.FilledList.{filled, fill, full}
+use Rattle.run_opening.proofs.FilledList.{fill}
 use Rattle.run_opening.proofs.open_statuses.Goals as goal
 use Rattle.run_opening.proofs.open_statuses.Invariants.{always}
 

@@ -1,12 +1,8 @@
 use Prim.Native.Nat.{ℕ, ◌-◌, ◌≤◌}
-use mathlib.Core.Path.{◌≡◌, refl, ◌∙◌}
-use native.Mathlib.Omega.{arith}
+use mathlib.Core.Path.{◌≡◌}
 use lib.IntN.{ℤ}
-use lib.ListN.{length, length-set}
-use mir.Syntax.{w32}
-use mir.Val.{of_z, to_z}
-use mir.Facts.{to_z-of_z}
-use Rattle.run_opening.proofs.FilledList.{filled, fill, full}
+use lib.ListN.{length}
+use Rattle.run_opening.proofs.FilledList.{filled}
 use Rattle.run_opening.proofs.open_statuses.Given as goal
 
 -- One status throughout.

@@ -11,7 +11,6 @@ use Rattle.read_tables.specs.Puts.{part}
 use Rattle.read_tables.specs.PlanTable.{words_at, word_at, sizes_in}
 use Rattle.run_opening.specs.Opened.{empty_store}
 use Rattle.run_opening.proofs.OpeningStore.{empty-length, products}
-use borrow.Author.Rules.{rules}
 use Rattle.run_opening.proofs.open_store.Goals as goal
 
 -- How many words the memory has, and where they go.

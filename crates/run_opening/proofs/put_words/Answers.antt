@@ -1,11 +1,11 @@
 -- `put_words` pastes the words, one after another. Assumes nothing.
-use Prim.Native.Nat.{ℕ, ◌+◌, ◌-◌, ◌≤◌}
+use Prim.Native.Nat.{ℕ, ◌+◌}
 use mathlib.Core.List.{List}
 use mathlib.Core.Path.{◌≡◌, sym, ◌∙◌, ap, ap₂}
 use native.Mathlib.Numerals.{add-one}
 use native.Mathlib.Omega.{arith}
 use lib.ListN.{length, get_or, set}
-use lib.Seq.{paste, paste-zero, paste-suc, length-paste}
+use lib.Seq.{paste, paste-suc}
 use Rattle.spec_format.proofs.Tabulated.{length-tabulate, get_d_tabulate}
 use Rattle.read_tables.specs.Puts.{part}
 use Rattle.read_tables.specs.PlanTable.{words_at, word_at}

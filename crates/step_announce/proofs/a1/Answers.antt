@@ -1,5 +1,4 @@
 -- `a1` is the item A1 of the step list. Assumes nothing.
-use borrow.Author.Rules.{rules}
 use Rattle.spec_machine.specs.Steps.{item}
 use Rattle.step_cells.specs.Effects.{Does}
 use Rattle.step_announce.proofs.a1.Goals as goal

@@ -1,9 +1,8 @@
 -- `a14` is the item A14 of the step list. Assumes nothing.
 use borrow.Author.Tests.{eq-eqb, ne_eqb}
-use borrow.Author.Rules.{rules}
 use Rattle.spec_machine.specs.Steps.{item}
 use Rattle.step_cells.specs.Effects.{Does}
-use Rattle.step_shared.proofs.Card.{card-in, card-small}
+use Rattle.step_shared.proofs.Card.{card-in}
 use Rattle.step_announce.proofs.a14.Goals as goal
 
 pub returns-then-w-eq0-clause-does : goal.returns-then-w-eq0-clause-does

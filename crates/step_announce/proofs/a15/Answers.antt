@@ -1,8 +1,7 @@
 -- `a15` is the item A15 of the step list. Assumes nothing.
-use borrow.Author.Rules.{rules}
 use Rattle.spec_machine.specs.Steps.{item}
 use Rattle.step_cells.specs.Effects.{Does}
-use Rattle.step_shared.proofs.Card.{card-in, card-small}
+use Rattle.step_shared.proofs.Card.{card-in}
 use Rattle.step_announce.proofs.a15.Goals as goal
 
 pub returns-clause-does : goal.returns-clause-does

@@ -1,9 +1,6 @@
 -- `fill` puts the numbers one after another. Assumes nothing.
-use Prim.Native.Nat.{ℕ, ◌+◌, ◌-◌, ◌*◌, ◌≤◌, ◌<◌}
-use mathlib.Core.Path.{◌≡◌}
-use native.Mathlib.Nat.{mul-le-mul}
+use Prim.Native.Nat.{ℕ, ◌+◌, ◌*◌}
 use native.Mathlib.Omega.{arith}
-use Rattle.step_cells.specs.CellTable.{Filled}
 use Rattle.step_cells.proofs.FilledCells.{fill_none, fill_more}
 use Rattle.step_cells.proofs.fill.Goals as goal
 

@@ -1,7 +1,6 @@
 -- `number_at` reads number i of the n from a start on. Assumes nothing.
 use mathlib.Core.Path.{sym, ◌∙◌}
 use Rattle.step_cells.proofs.CellPlaces.{places-at}
-use borrow.Author.Rules.{rules}
 use Rattle.step_cells.proofs.number_at.Goals as goal
 
 pub returns : goal.returns

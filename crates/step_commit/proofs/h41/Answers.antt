@@ -2,7 +2,6 @@
 use mathlib.Core.Path.{sym, ◌∙◌}
 use Rattle.spec_machine.specs.Steps.{item}
 use Rattle.step_cells.specs.Effects.{Does}
-use borrow.Author.Rules.{rules}
 use Rattle.step_commit.proofs.h41.Goals as goal
 
 pub returns-then-may_store-clause-by_index : goal.returns-then-may_store-clause-by_index

@@ -1,9 +1,5 @@
 -- `a10` is the item A10 of the step list. Assumes nothing.
-use Prim.Native.Nat.{◌+◌, ◌<◌, ◌%◌}
-use native.Mathlib.Nat.{mod-lt}
-use native.Mathlib.Omega.{arith}
 use lib.IntN.{pos}
-use borrow.Author.Rules.{rules}
 use Rattle.read_tables.specs.PlanTable.{sizes_in}
 use Rattle.spec_machine.specs.Steps.{item}
 use Rattle.step_cells.specs.Effects.{Does}

@@ -1,5 +1,4 @@
 -- `a12` is the item A12 of the step list. Assumes nothing.
-use borrow.Author.Rules.{rules}
 use Rattle.spec_machine.specs.Steps.{item}
 use Rattle.step_cells.specs.Effects.{Does}
 use Rattle.step_counter.proofs.a12.Goals as goal

@@ -1,12 +1,10 @@
 -- `a7` is the item A7 of the step list. Assumes nothing.
 use Prim.Native.Nat.{◌%◌}
 use mathlib.Core.Path.{◌≡◌}
-use mathlib.Core.Bool.{Bool, false, not, ◌&&◌, ◌||◌}
-use mathlib.Core.Logic.{⊎_elim}
+use mathlib.Core.Bool.{false, not, ◌&&◌, ◌||◌}
 use lib.Dec.{eqb}
 use lib.IntN.{ℤ, pos}
 use lib.ListN.{get_or}
-use borrow.Author.Rules.{rules}
 use Rattle.read_tables.specs.PlanTable.{sizes_in, job_at}
 use Rattle.spec_machine.specs.Status.{same_status}
 use Rattle.spec_machine.specs.Steps.{item}

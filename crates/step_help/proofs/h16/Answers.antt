@@ -1,11 +1,7 @@
 -- `h16` is the item H16 of the step list. Assumes nothing.
-use Prim.Native.Nat.{◌%◌, ◌<◌}
-use native.Mathlib.Nat.{mod-lt}
-use native.Mathlib.Omega.{arith}
 use Rattle.read_tables.specs.PlanTable.{sizes_in}
 use Rattle.spec_machine.specs.Steps.{item}
 use Rattle.step_cells.specs.Effects.{Does}
-use borrow.Author.Rules.{rules}
 use Rattle.step_help.proofs.h16.Goals as goal
 
 pub returns-clause-does : goal.returns-clause-does

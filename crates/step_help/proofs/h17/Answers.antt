@@ -4,7 +4,6 @@ use lib.IntN.{pos}
 use Rattle.read_tables.specs.PlanTable.{sizes_in}
 use Rattle.spec_machine.specs.Steps.{item}
 use Rattle.step_cells.specs.Effects.{Does}
-use borrow.Author.Rules.{rules}
 use Rattle.step_help.proofs.h17.Goals as goal
 
 pub returns-then-is_finished-clause-does : goal.returns-then-is_finished-clause-does

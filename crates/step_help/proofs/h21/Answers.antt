@@ -8,7 +8,6 @@ use Rattle.read_tables.specs.PlanTable.{updates_in, plan_in}
 use Rattle.read_tables.proofs.PlanIn.{count-in}
 use Rattle.spec_machine.specs.Steps.{item}
 use Rattle.step_cells.specs.Effects.{Does}
-use borrow.Author.Rules.{rules}
 use Rattle.step_help.proofs.h21.Goals as goal
 
 pub returns-clause-does : goal.returns-clause-does

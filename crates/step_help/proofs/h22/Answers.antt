@@ -1,8 +1,6 @@
 -- `h22` is the item H22 of the step list. Assumes nothing.
-use mathlib.Core.Path.{refl}
 use Rattle.spec_machine.specs.Steps.{item}
 use Rattle.step_cells.specs.Effects.{Does}
-use borrow.Author.Rules.{rules}
 use Rattle.step_help.proofs.h22.Goals as goal
 
 pub returns-clause-by_index : goal.returns-clause-by_index

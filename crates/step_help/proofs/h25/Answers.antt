@@ -1,11 +1,9 @@
 -- `h25` is the item H25 of the step list. Assumes nothing.
 use mathlib.Core.Path.{sym, ◌∙◌}
-use native.Mathlib.Omega.{arith}
 use lib.IntN.{pos}
 use Rattle.read_tables.specs.PlanTable.{sizes_in}
 use Rattle.spec_machine.specs.Steps.{item}
 use Rattle.step_cells.specs.Effects.{Does}
-use borrow.Author.Rules.{rules}
 use Rattle.step_help.proofs.h25.Goals as goal
 
 pub returns-then-may_decide-clause-by_index : goal.returns-then-may_decide-clause-by_index

@@ -4,7 +4,6 @@ use lib.IntN.{pos}
 use Rattle.read_tables.specs.PlanTable.{sizes_in}
 use Rattle.spec_machine.specs.Steps.{stage, item}
 use Rattle.step_cells.specs.Effects.{Does}
-use borrow.Author.Rules.{rules}
 use Rattle.step_move_stages.proofs.check.Goals as goal
 
 pub returns-then-may_decide-clause-by_index : goal.returns-then-may_decide-clause-by_index

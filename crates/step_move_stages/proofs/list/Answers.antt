@@ -3,8 +3,7 @@ use borrow.Author.Tests.{eq-eqb, ne_eqb}
 use Rattle.spec_machine.specs.Steps.{stage, item}
 use Rattle.step_cells.specs.Tables.{own_of}
 use Rattle.step_cells.specs.Effects.{Does}
-use Rattle.step_accesses.proofs.MovesInTable.{Found, access-there, move-found, block-found, block-there, job-below}
-use borrow.Author.Rules.{rules}
+use Rattle.step_accesses.proofs.MovesInTable.{Found, move-found}
 use Rattle.step_move_stages.proofs.list.Goals as goal
 
 pub returns-then-dirty-eq0-clause-does : goal.returns-then-dirty-eq0-clause-does

@@ -5,8 +5,7 @@ use Rattle.read_tables.specs.PlanTable.{plan_in}
 use Rattle.spec_machine.specs.Steps.{item}
 use Rattle.step_cells.specs.Tables.{own_of, shared_of}
 use Rattle.step_cells.specs.Effects.{Does}
-use Rattle.step_accesses.proofs.MovesInTable.{Found, access-there, take-is, block-there, job-below, word-in-store}
-use borrow.Author.Rules.{rules}
+use Rattle.step_accesses.proofs.MovesInTable.{Found, take-is, word-in-store}
 use Rattle.step_move_stages.proofs.take.Goals as goal
 
 pub overflow_mul-at : goal.overflow_mul-at

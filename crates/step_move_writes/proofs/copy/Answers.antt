@@ -1,12 +1,9 @@
 -- `copy` is the copy stage: its test on the mark is that of the definition. Assumes nothing.
-use Prim.Native.Nat.{◌<◌}
-use native.Mathlib.Omega.{arith}
 use borrow.Author.Tests.{eq-eqb, ne_eqb}
 use Rattle.spec_machine.specs.Steps.{stage, item}
 use Rattle.step_cells.specs.Tables.{own_of}
 use Rattle.step_cells.specs.Effects.{Does}
-use Rattle.step_accesses.proofs.MovesInTable.{Found, access-there, move-found, block-found, block-there, job-below}
-use borrow.Author.Rules.{rules}
+use Rattle.step_accesses.proofs.MovesInTable.{Found, move-found, block-there}
 use Rattle.step_move_writes.proofs.copy.Goals as goal
 
 pub returns-then-dirty-eq2-clause-does : goal.returns-then-dirty-eq2-clause-does

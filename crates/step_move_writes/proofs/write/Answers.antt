@@ -2,8 +2,7 @@
 use Rattle.spec_machine.specs.Steps.{stage, item}
 use Rattle.step_cells.specs.Tables.{own_of}
 use Rattle.step_cells.specs.Effects.{Does}
-use Rattle.step_accesses.proofs.MovesInTable.{Found, access-there, move-found, onward-is, block-there, job-below, place-below}
-use borrow.Author.Rules.{rules}
+use Rattle.step_accesses.proofs.MovesInTable.{Found, move-found, onward-is, place-below}
 use Rattle.step_move_writes.proofs.write.Goals as goal
 
 pub returns-clause-does : goal.returns-clause-does

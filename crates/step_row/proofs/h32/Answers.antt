@@ -6,7 +6,6 @@ use Rattle.read_tables.specs.PlanTable.{sizes_in}
 use Rattle.spec_machine.specs.Steps.{item}
 use Rattle.step_cells.specs.Effects.{Does}
 use Rattle.step_row.proofs.StatusBits.{read_back}
-use borrow.Author.Rules.{rules}
 use Rattle.step_row.proofs.h32.Goals as goal
 
 pub returns-then-is_undecided-clause-does : goal.returns-then-is_undecided-clause-does

@@ -1,12 +1,10 @@
 -- `h34` is the item H34 of the step list. Assumes nothing.
 use mathlib.Core.Path.{ap, ◌∙◌}
-use native.Mathlib.Omega.{arith}
 use borrow.Author.Tests.{eq-eqb, ne_eqb}
 use Rattle.spec_machine.specs.Status.{job_named}
 use Rattle.spec_machine.specs.Steps.{item}
 use Rattle.step_cells.specs.Effects.{Does}
 use Rattle.step_row.proofs.StatusBits.{names-back}
-use borrow.Author.Rules.{rules}
 use Rattle.step_row.proofs.h34.Goals as goal
 
 pub returns-then-n-eq0-clause-by_index : goal.returns-then-n-eq0-clause-by_index

@@ -1,7 +1,6 @@
 -- `h36` is the item H36 of the step list. Assumes nothing.
 use Rattle.spec_machine.specs.Steps.{item}
 use Rattle.step_cells.specs.Effects.{Does}
-use borrow.Author.Rules.{rules}
 use Rattle.step_row.proofs.h36.Goals as goal
 
 pub returns-then-not-same_version-clause-by_index : goal.returns-then-not-same_version-clause-by_index

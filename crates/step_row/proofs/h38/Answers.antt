@@ -4,7 +4,6 @@ use Rattle.spec_machine.specs.Status.{job_named}
 use Rattle.spec_machine.specs.Steps.{item}
 use Rattle.step_cells.specs.Effects.{Does}
 use Rattle.step_row.proofs.StatusBits.{names-back}
-use borrow.Author.Rules.{rules}
 use Rattle.step_row.proofs.h38.Goals as goal
 
 pub returns-clause-by_index_2 : goal.returns-clause-by_index_2

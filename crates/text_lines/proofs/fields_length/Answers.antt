@@ -1,11 +1,9 @@
 -- `fields_length` adds up the lengths of the fields, from the last to the first. Assumes nothing.
-use Prim.Native.Nat.{suc, ◌+◌, ◌-◌, ◌*◌, ◌≤◌}
+use Prim.Native.Nat.{suc, ◌+◌, ◌-◌, ◌≤◌}
 use mathlib.Core.Path.{◌≡◌}
 use mathlib.Core.List.{map}
 use native.Mathlib.Omega.{arith}
-use borrow.Author.Rules.{rules}
 use lib.ListN.{length, get_or, drop}
-use lib.Seq.{drop-length}
 use Rattle.text_lines.proofs.FieldsBefore.{longer}
 use Rattle.spec_text.specs.Decimal.{decimal}
 use Rattle.spec_text.specs.WrittenLines.{fields_behind}

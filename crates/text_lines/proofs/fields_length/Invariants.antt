@@ -1,11 +1,7 @@
-use Prim.Native.Nat.{suc, ◌+◌, ◌-◌, ◌*◌, ◌≤◌}
+use Prim.Native.Nat.{◌+◌, ◌*◌, ◌≤◌}
 use mathlib.Core.Path.{◌≡◌}
 use mathlib.Core.List.{map}
-use native.Mathlib.Omega.{arith}
-use borrow.Author.Rules.{rules}
-use lib.ListN.{length, get_or, drop}
-use lib.Seq.{drop-length}
-use Rattle.text_lines.proofs.FieldsBefore.{longer}
+use lib.ListN.{length, drop}
 use Rattle.spec_text.specs.Decimal.{decimal}
 use Rattle.spec_text.specs.WrittenLines.{fields_behind}
 use Rattle.text_lines.proofs.fields_length.Given as goal

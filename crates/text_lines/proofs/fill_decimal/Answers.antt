@@ -1,7 +1,6 @@
 -- `fill_decimal` writes the digits of a number before a place, the last first. Assumes nothing.
 use native.Mathlib.Omega.{arith}
-use borrow.Author.Rules.{rules}
-use Rattle.text_lines.proofs.DigitsBefore.{Filling, begun, next_place, one_more, last}
+use Rattle.text_lines.proofs.DigitsBefore.{next_place, one_more, last}
 use Rattle.text_lines.proofs.fill_decimal.Goals as goal
 
 pub overflow_sub-at : goal.overflow_sub-at

@@ -1,6 +1,4 @@
-use native.Mathlib.Omega.{arith}
-use borrow.Author.Rules.{rules}
-use Rattle.text_lines.proofs.DigitsBefore.{Filling, begun, next_place, one_more, last}
+use Rattle.text_lines.proofs.DigitsBefore.{Filling}
 use Rattle.text_lines.proofs.fill_decimal.Given as goal
 
 abbrev pub invariant-loop-rest : goal.invariant-loop-rest

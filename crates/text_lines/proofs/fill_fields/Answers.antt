@@ -1,9 +1,8 @@
 -- `fill_fields` writes the line feed, and the fields before it, the last first. Assumes nothing.
 use native.Mathlib.Omega.{arith}
 use Prim.Native.Nat.{◌-◌}
-use mathlib.Core.Path.{◌∙◌}
 use lib.ListN.{length, length-set}
-use Rattle.text_lines.proofs.FieldsBefore.{Filling, begun, some-field, room, places, one_more, done}
+use Rattle.text_lines.proofs.FieldsBefore.{begun, some-field, room, places, one_more, done}
 use Rattle.text_lines.proofs.fill_fields.Goals as goal
 
 pub overflow_sub-at : goal.overflow_sub-at

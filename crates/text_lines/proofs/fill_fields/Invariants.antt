@@ -1,8 +1,4 @@
-use native.Mathlib.Omega.{arith}
-use Prim.Native.Nat.{◌-◌}
-use mathlib.Core.Path.{◌∙◌}
-use lib.ListN.{length, length-set}
-use Rattle.text_lines.proofs.FieldsBefore.{Filling, begun, some-field, room, places, one_more, done}
+use Rattle.text_lines.proofs.FieldsBefore.{Filling}
 use Rattle.text_lines.proofs.fill_fields.Given as goal
 
 abbrev pub invariant-loop-i : goal.invariant-loop-i

@@ -1,11 +1,10 @@
 -- `fill_line` writes the fields of the numbers, and the first field before them. Assumes nothing.
-use Prim.Native.Nat.{ℕ, suc, ◌+◌, ◌-◌, ◌≤◌}
-use mathlib.Core.Path.{◌≡◌, refl, sym, ap, ◌∙◌}
+use Prim.Native.Nat.{ℕ, suc, ◌+◌}
+use mathlib.Core.Path.{◌≡◌, ap, ◌∙◌}
 use native.Mathlib.Omega.{arith}
-use mathlib.Core.List.{List, ◌++◌}
+use mathlib.Core.List.{List}
 use lib.ListN.{length, get_or, set, drop, length-append}
-use lib.Seq.{take-length}
-use Rattle.text_lines.proofs.Stores.{copied, copied_more, long}
+use Rattle.text_lines.proofs.Stores.{copied, copied_more}
 use Rattle.text_lines.proofs.FieldsBefore.{fields_of, line-parts}
 use Rattle.text_lines.proofs.fill_line.Goals as goal
 

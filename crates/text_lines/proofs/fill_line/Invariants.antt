@@ -1,11 +1,7 @@
-use Prim.Native.Nat.{ℕ, suc, ◌+◌, ◌-◌, ◌≤◌}
-use mathlib.Core.Path.{◌≡◌, refl, sym, ap, ◌∙◌}
-use native.Mathlib.Omega.{arith}
-use mathlib.Core.List.{List, ◌++◌}
-use lib.ListN.{length, get_or, set, drop, length-append}
-use lib.Seq.{take-length}
-use Rattle.text_lines.proofs.Stores.{copied, copied_more, long}
-use Rattle.text_lines.proofs.FieldsBefore.{fields_of, line-parts}
+use Prim.Native.Nat.{◌-◌, ◌≤◌}
+use mathlib.Core.Path.{◌≡◌}
+use lib.ListN.{length}
+use Rattle.text_lines.proofs.Stores.{copied}
 use Rattle.text_lines.proofs.fill_line.Given as goal
 
 abbrev pub invariant-loop-i : goal.invariant-loop-i

@@ -7,7 +7,6 @@ use lib.ListN.{length}
 use Rattle.spec_plan_text.specs.PlanText.{move_line}
 use Rattle.read_tables.specs.PlanTable.{count_at}
 use Rattle.spec_report.specs.Report.{joined}
-use Rattle.text_lines.specs.Fills.{Fills}
 use Rattle.text_lines.proofs.Fills.{keeps, renamed, then, once_more}
 use Rattle.text_lines.proofs.JoinedLines.{next-room}
 use Rattle.text_update_lines.proofs.UpdateLines.{update_line, move_line_at, update-is, update-length}

@@ -1,6 +1,5 @@
 -- `finish` meets its contract. Assumes nothing.
 use mathlib.Core.Path.{◌∙◌}
-use borrow.Author.Rules.{rules}
 use Rattle.report_ending.proofs.WrittenOut.{ended-as}
 use Rattle.whole_records_end.proofs.finish.Goals as goal
 

@@ -15,7 +15,6 @@ use Rattle.run_loop.specs.RunReached.{place_noted, Ran}
 use Rattle.report_ending.proofs.WrittenOut.{same_outcome, refused-out}
 use Rattle.whole_records_start.specs.BeforeAndAfter.{Accepts, Closing}
 use Rattle.whole_records_end.proofs.ScheduleOutcomes.{refused-text, too_many, misplaced, to-report, low-place, report_is}
-use borrow.Author.Rules.{rules}
 use Rattle.whole_records_end.proofs.report_of.Goals as goal
 
 -- Few records have run beside an accepted text: they are few, and all have run.

@@ -1,7 +1,5 @@
 -- `begin` reads the plan's text, and opens the tables where it is accepted. Assumes nothing.
-use mathlib.Core.Path.{refl}
 use Rattle.whole_records_start.proofs.BeforeAndAfter.{sound}
-use borrow.Author.Rules.{rules}
 use Rattle.whole_records_start.proofs.begin.Goals as goal
 
 pub open-requires : goal.open-requires

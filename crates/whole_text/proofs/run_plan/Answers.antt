@@ -13,8 +13,7 @@ use Rattle.run_opening.specs.Opened.{empty_cells, empty_store, empty_rows}
 use Rattle.run_loop.specs.RunReached.{Starts}
 use Rattle.report_ending.proofs.WrittenOut.{same_outcome}
 use Rattle.whole_text.specs.Reads.{Reads}
-use Rattle.whole_text.proofs.AcceptedText.{sound-plan, few_notes, few-listed, counted, few_entries, the-start, to-report, low-line, the-run}
-use borrow.Author.Rules.{rules}
+use Rattle.whole_text.proofs.AcceptedText.{sound-plan, few_notes, few-listed, few_entries, the-start, to-report, low-line, the-run}
 use Rattle.whole_text.proofs.run_plan.Goals as goal
 
 pub open-requires : goal.open-requires

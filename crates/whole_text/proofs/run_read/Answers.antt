@@ -6,7 +6,6 @@ use Rattle.spec_format.specs.Reading.{reading}
 use Rattle.read_text.specs.Readings.{reading_from}
 use Rattle.report_ending.proofs.WrittenOut.{refused-out}
 use Rattle.whole_text.proofs.AcceptedText.{refused-text}
-use borrow.Author.Rules.{rules}
 use Rattle.whole_text.proofs.run_read.Goals as goal
 
 pub returns-in-Refused : goal.returns-in-Refused

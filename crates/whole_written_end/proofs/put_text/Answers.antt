@@ -3,7 +3,6 @@ use native.Mathlib.Omega.{arith}
 use Rattle.text_lines.proofs.Fills.{keeps, renamed, then}
 use Rattle.whole_written_end.specs.TextIn.{text_in}
 use Rattle.whole_written_end.proofs.TextParts.{text-parts, text-long}
-use borrow.Author.Rules.{rules}
 use Rattle.whole_written_end.proofs.put_text.Goals as goal
 
 pub put_plan_lines-updates-requires-clause-plan_in_bounds : goal.put_plan_lines-updates-requires-clause-plan_in_bounds

@@ -1,7 +1,6 @@
 -- `text_length` adds up the lengths of the parts. Assumes nothing.
 use native.Mathlib.Omega.{arith}
 use Rattle.whole_written_end.proofs.TextParts.{text-long}
-use borrow.Author.Rules.{rules}
 use Rattle.whole_written_end.proofs.text_length.Goals as goal
 
 pub returns : goal.returns

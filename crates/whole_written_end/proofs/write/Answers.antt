@@ -3,7 +3,6 @@ use native.Mathlib.Omega.{arith}
 use Rattle.text_lines.proofs.Fills.{whole}
 use Rattle.whole_written_end.specs.TextIn.{text_in}
 use Rattle.whole_written_end.proofs.TextParts.{fits_out, short-out}
-use borrow.Author.Rules.{rules}
 use Rattle.whole_written_end.proofs.write.Goals as goal
 
 pub returns-then-buffer-length : goal.returns-then-buffer-length

@@ -1,13 +1,10 @@
 -- `write_after` joins the entries and writes the text where the run is accepted. Assumes nothing.
 use mathlib.Core.Path.{refl, ap, ◌∙◌}
-use native.Mathlib.Omega.{arith}
 use Rattle.spec_format.specs.Plan.{entries_in}
-use Rattle.spec_format.proofs.Sound.{entries-many}
 use Rattle.spec_report.specs.Outcomes.{written}
 use Rattle.read_tables.specs.NoteTable.{listed_in}
 use Rattle.report_ending.proofs.WrittenOut.{same_outcome}
 use Rattle.whole_written_end.proofs.TextParts.{text_is, none_out, accepted-at}
-use borrow.Author.Rules.{rules}
 use Rattle.whole_written_end.proofs.write_after.Goals as goal
 
 pub returns-in-Accepted : goal.returns-in-Accepted

@@ -22,7 +22,6 @@ use Rattle.whole_records_start.specs.BeforeAndAfter.{Accepts, PlanRead}
 use Rattle.whole_records_start.proofs.BeforeAndAfter.{sound}
 use Rattle.whole_records_end.proofs.ScheduleOutcomes.{refused-text, too_many, misplaced}
 use Rattle.whole_written_records.proofs.RecordsWritten.{refused_as, holding, the-writing}
-use borrow.Author.Rules.{rules}
 use Rattle.whole_written_records.proofs.write_run.Goals as goal
 
 -- The text is accepted, and its plan stands in the table.

@@ -13,7 +13,6 @@ use Rattle.run_judge.specs.Rulings.{halt_of}
 use Rattle.report_ending.proofs.WrittenOut.{same_outcome}
 use Rattle.whole_text.proofs.AcceptedText.{sound-plan}
 use Rattle.whole_written_text.proofs.AcceptedWritten.{whole-notes, holding, the-writing}
-use borrow.Author.Rules.{rules}
 use Rattle.whole_written_text.proofs.write_plan.Goals as goal
 
 pub run_notes-ran-requires : goal.run_notes-ran-requires

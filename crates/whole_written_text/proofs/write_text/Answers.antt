@@ -4,7 +4,6 @@ use mathlib.Core.Path.{refl}
 use lib.ListN.{length-replicate}
 use Rattle.read_tables.specs.PlanTable.{empty_plan}
 use Rattle.read_tables.specs.NoteTable.{note_places}
-use borrow.Author.Rules.{rules}
 use Rattle.whole_written_text.proofs.write_text.Goals as goal
 
 pub write_read-requires : goal.write_read-requires
