@@ -63,7 +63,6 @@ fn try_schedule<R: Outputs>(
     rt: &R,
     pack_name: &[u8],
     case_name: &[u8],
-    way: &[u8],
     text: &[u8],
     records: Records,
     output: &[u8],
@@ -82,6 +81,11 @@ fn try_schedule<R: Outputs>(
         return CaseResult::Malformed;
     }
     let entries = records.entries;
+    let way: &[u8] = if writes {
+        b"write_schedule"
+    } else {
+        b"schedule"
+    };
     vectors_cases::fill(room, vectors_agreement::MARKER);
     let ended = run_schedule(text, entries, count, room, n, writes);
     let agrees = vectors_agreement::compare_ended(
@@ -147,7 +151,7 @@ fn run_case<R: Outputs>(
         let entries = vectors_cases::read_records(records);
         let end = vectors_agreement::written_ending(output, entries.count);
         return try_schedule(
-            rt, pack_name, case_name, kind, text, entries, output, end, room, n, true,
+            rt, pack_name, case_name, text, entries, output, end, room, n, true,
         );
     }
     let Ending::Read(end) = vectors_agreement::read_ending(vectors_cases::last_line(output)) else {
@@ -156,7 +160,7 @@ fn run_case<R: Outputs>(
     if check::same(kind, b"schedule") {
         let entries = vectors_cases::read_records(records);
         return try_schedule(
-            rt, pack_name, case_name, kind, text, entries, output, end, room, n, false,
+            rt, pack_name, case_name, text, entries, output, end, room, n, false,
         );
     }
     if !check::same(kind, b"run") {
