@@ -140,8 +140,8 @@ pub fn read_all<R: Outputs, I: Read>(rt: &R, input: &mut I, name: &[u8], bytes: 
     }
 }
 
-// Writes all of the bytes. A write that fails, or takes none of them, is told by the output's name, but not where nobody
-// reads the output any more. Where it is known what the output holds, all of the bytes then stand behind it.
+// Writes all of the bytes. A write that fails, or takes none of them, is told by the output's name, but not where
+// nobody reads the output any more. Where it is known what the output holds, all of the bytes then stand behind it.
 pub fn write_all<O: Write, E: Print>(
     output: &mut O,
     errors: &E,

@@ -12,9 +12,10 @@
 --     lends             own at ι ∗ [ι]_q  ⊢ ⇛ ∃ names. own at ν under these names ∗ Kept
 --     comes_back        [†ν] ∗ Kept ∗ fins  ⊢ ⇛ Sames, and own at ι at the last values ∗ [ι]_q
 --     ends, ends-left   own at the last values  ⊢  fins, and ⊢ lefts.      left-fins    lefts  ⊢  fins
---     Shown, shows-again, unshown   one `&mut` is lent again as a `&`, and comes back as it was. The `&` has no name, and
---                       is made with no token where the value is lent so, as of each type that is Copy
---                       (`Denote/Copied.antt`'s `lends`);  shows-again-by    of any type, by tokens (`Denote/Shares.antt`)
+--     Shown, shows-again, unshown   one `&mut` is lent again as a `&`, and comes back as it was. The `&` has no name,
+--                       and is made with no token where the value is lent so, as of each type that is Copy
+--                       (`Denote/Copied.antt`'s `lends`)
+--     shows-again-by    the same of any type, by tokens (`Denote/Shares.antt`)
 --     array_long        own of a `&mut [T; n]` ∗ [ι]_q  ⊢ ⇛ the array has n elements, and both are had still
 -- Assumes `Logic`.
 use mathlib.Core.Path.{◌≡◌, refl, sym}
@@ -211,7 +212,8 @@ module _ {M : Type 1} {𝓤 : Ura M} (𝓛 : Logic 𝓤) (ℓ ℓ' : Lifetime) (
       qed 𝓛 (‵ (fdead ν) ∷ ‵ (kept₁ ι ν q (slice R) x δ)
       ∷ ‵ (fsep (finally R δ z) (feq ℕ (length z) (length x.now))) ∷ []) ∵ updating ! $
       move ! (2 ∷ []) $ fsplit ! $ move ! (1 ∷ []) $ feq_l ! (λ same. move ! (1 ∷ 2 ∷ 0 ∷ []) $
-      use3 𝓛 (later (‵ ((MutSlice ℓ ι R).own_val (at_last x z) (slice_val x.ref_ptr (length x.now) ∷ [])) ⊛ ‵ (flft ι q)))
+      use3 𝓛 (later (‵ ((MutSlice ℓ ι R).own_val (at_last x z) (slice_val x.ref_ptr (length x.now) ∷ [])) ⊛ ‵
+      (flft ι q)))
       (row.comes_back R ι ν q x.ghost_name x.ref_ptr.0 x.ref_ptr.1 𝓛 ℓ ℓ x.now δ z room same) $ await ! tt $
       at_once ! $ split ! $
       rewrite ! 0 (λ (n : ℕ). ‵ ((MutSlice ℓ ι R).own_val (at_last x z) (slice_val x.ref_ptr n ∷ []))) (sym same) refl $

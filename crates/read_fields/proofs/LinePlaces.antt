@@ -50,5 +50,6 @@ unfolding fields fields_at
 fields-whole line = rw (le-ltb (length line) 0 (omega arith))
 
 -- The fields of a line: its first, and those behind the tab that ends it.
-pub fields-first : (line : List ℕ) → fields line ≡ take (place_of 9 line 0) line ∷ fields_at line (place_of 9 line 0 + 1)
+pub fields-first : (line : List ℕ) → fields line
+    ≡ take (place_of 9 line 0) line ∷ fields_at line (place_of 9 line 0 + 1)
 fields-first line = fields-whole line ∙ fields-next line 0 (omega arith) ∙ rw sub-zero

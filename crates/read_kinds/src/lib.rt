@@ -28,6 +28,7 @@ fn same_bytes(a: &[u8], b: &[u8]) -> bool
 }
 
 // The kind that a first field names.
+#[tactic(auto, unfolding(spec_format::specs::Kinds::kind_of))]
 pub fn kind_of(word: &[u8]) -> Kind
     ensures { result ≡ kind_of word.now }
 {

@@ -28,7 +28,8 @@ use Rattle.spec_format.specs.Reading.{add_to_last, listed}
 use Rattle.spec_format.proofs.Tabulated.{length-tabulate}
 use Rattle.read_tables.specs.Puts.{part, Put}
 use Rattle.read_tables.specs.PlanTable.{plan_places, updates_at, cards_at, priorities_at, counts_at, words_at, moves_at}
-use Rattle.read_tables.specs.PlanTable.{sizes_in, updates_in, job_at, count_at, move_start, move_at, update_at, numbers_of}
+use Rattle.read_tables.specs.PlanTable.{sizes_in, updates_in, job_at, count_at, move_start, move_at, update_at}
+use Rattle.read_tables.specs.PlanTable.{numbers_of}
 use Rattle.read_tables.specs.NoteTable.{note_places, note_start, places_of, listed_in}
 use Rattle.read_tables.proofs.Puts.{Same, outside, same_then, put-there}
 use Rattle.read_tables.proofs.PlanTable.{sizes-same, jobs-more, words_more, updates-more, moves_more}
@@ -414,7 +415,8 @@ update-read k p t s u e i n says-it place few room h put put' =
     words : part u words_at (p.blocks * (sizes_in u).words) ≡ part t words_at (p.blocks * (sizes_in t).words)
     words =
         words-kept h sizes
-        (same_then (outside put words_at moves_at (inr (omega arith))) (outside put' words_at moves_at (inr (omega arith))))
+        (same_then (outside put words_at moves_at (inr (omega arith)))
+        (outside put' words_at moves_at (inr (omega arith))))
 
     updates : tabulate (updates_in u) (update_at u) ≡ tabulate (updates_in t) (update_at t) ++ ([] ∷ [])
     updates =
@@ -511,7 +513,8 @@ entry_read k p t e e' i y n says-it low high few room h whole put =
     }
 
 -- The last update is the one at the last place.
-last-update : (t : List ℕ) (n : ℕ) → updates_in t ≡ n + 1 → last_of (tabulate (updates_in t) (update_at t)) ≡ update_at t n
+last-update : (t : List ℕ) (n : ℕ) → updates_in t ≡ n + 1 → last_of (tabulate (updates_in t) (update_at t))
+    ≡ update_at t n
 last-update t n e = rw (e, add-one) (last-is (tabulate n (update_at t)) (update_at t n))
 
 -- The blocks that the last update writes are counted.

@@ -42,7 +42,8 @@ blocks_more t n s w m e =
     counted-more s (update_at t n) m
     ∙ rw (
       e,
-      any-alike (writes s (block_of s (target m))) (λ (x : ℕ). eqb (block_of s x) (block_of s (target m))) (count_at t n)
+      any-alike (writes s (block_of s (target m))) (λ (x : ℕ). eqb (block_of s x) (block_of s (target m)))
+          (count_at t n)
           (λ i. move_at t (16 * n + i))
           (λ i. target_at t (16 * n + i))
           (λ i h. rw (target_is (kind_at t (16 * n + i)) (target_at t (16 * n + i)) (source_at t (16 * n + i))

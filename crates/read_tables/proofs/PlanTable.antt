@@ -52,7 +52,8 @@ module _ {t u : List ℕ} where
   move_same : (m : ℕ) → Same (move_start m) (move_start m + 4) t u → move_at u m ≡ move_at t m
   move_same m s =
       λ i.
-      move_of (s.at (move_start m) (omega arith) (omega arith) i) (s.at (move_start m + 1) (omega arith) (omega arith) i)
+      move_of (s.at (move_start m) (omega arith) (omega arith) i)
+      (s.at (move_start m + 1) (omega arith) (omega arith) i)
       (s.at (move_start m + 2) (omega arith) (omega arith) i)
       (s.at (move_start m + 3) (omega arith) (omega arith) i)
 
@@ -108,7 +109,8 @@ words_more {t} {u} b s ws room many p =
     before : part u words_at (b * s) ≡ part t words_at (b * s)
     before =
         tabulate-same (b * s) (λ w. get_or u (words_at + w) 0) (λ w. get_or t (words_at + w) 0)
-        (λ w l. (outside p words_at (words_at + b * s) (inl (omega arith))).at (words_at + w) (omega arith) (omega arith))
+        (λ w l. (outside p words_at (words_at + b * s) (inl (omega arith))).at (words_at + w) (omega arith)
+        (omega arith))
 
     behind : tabulate s (λ w. get_or u (words_at + (b * s + w)) 0) ≡ ws
     behind =

@@ -78,7 +78,13 @@ move_of code d a k = cond (eqb code 0) (Move.Copy d a) (cond (eqb code 1) (Move.
 -- P, N, B, S and C.
 abbrev pub sizes_in : List ℕ → Sizes
 sizes_in t =
-    record { cards = get_or t 0 0; jobs = get_or t 1 0; blocks = get_or t 2 0; words = get_or t 3 0; copies = get_or t 4 0 }
+    record {
+      cards = get_or t 0 0;
+      jobs = get_or t 1 0;
+      blocks = get_or t 2 0;
+      words = get_or t 3 0;
+      copies = get_or t 4 0;
+    }
 
 -- How many updates there are.
 abbrev pub updates_in : List ℕ → ℕ

@@ -59,8 +59,10 @@ pub fn put_blocks(
     cells: &[u32; CELL_PLACES],
     store: &[u32],
 ) -> usize
-    requires plan_bound { ((sizes_in plan.now).blocks ≤ 16) × (((sizes_in plan.now).words ≤ 16) × (at + 3200 ≤ 4294967296)) }
-    requires store_len { (length store.now ≡ 2304) × ((b : ℕ) → get_or (places cells.now bank_at 16) b 0 < most_numbers) }
+    requires plan_bound { ((sizes_in plan.now).blocks ≤ 16)
+        × (((sizes_in plan.now).words ≤ 16) × (at + 3200 ≤ 4294967296)) }
+    requires store_len { (length store.now ≡ 2304)
+        × ((b : ℕ) → get_or (places cells.now bank_at 16) b 0 < most_numbers) }
     ensures { Writes
         (blocks_bytes (sizes_in plan.now) (places cells.now bank_at 16) store.now) 3200 at
         buffer.old result buffer.new }

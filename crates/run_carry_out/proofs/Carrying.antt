@@ -16,7 +16,8 @@ use Rattle.read_tables.specs.PlanTable.{sizes_in, job_at}
 use Rattle.spec_machine.specs.Status.{undecided}
 use Rattle.spec_machine.specs.Machine.{in_row, stored, carried_out}
 use Rattle.step_cells.specs.declared.Change.{Change}
-use Rattle.step_cells.specs.CellTable.{places, ann_at, trans_at, bank_at, numblks_at, committed_at, running_at, active_at}
+use Rattle.step_cells.specs.CellTable.{places, ann_at, trans_at, bank_at, numblks_at, committed_at, running_at}
+use Rattle.step_cells.specs.CellTable.{active_at}
 use Rattle.step_cells.specs.CellTable.{curr_at, called_update_at}
 use Rattle.step_cells.specs.Tables.{Tables, Whole, lent}
 use Rattle.step_cells.specs.Effects.{OwnStep, marking, unmarked, reclaiming, Carried}

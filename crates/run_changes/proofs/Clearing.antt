@@ -31,7 +31,8 @@ clear-more p i t u l h c =
       clear = λ long j m. at long j m (ℕ_discrete j i);
     }
   where
-    at : length t ≡ cell_places → (j : ℕ) → j < i + 1 → Dec (j ≡ i) → get_or (set u (own_at p + i) 0) (own_at p + j) 0 ≡ 0
+    at : length t ≡ cell_places → (j : ℕ) → j < i + 1 → Dec (j ≡ i) → get_or (set u (own_at p + i) 0) (own_at p + j) 0
+        ≡ 0
     at long j m (yes e) =
         let long' : length u ≡ cell_places = c.only.long ∙ long in
         rw e (get_or-set_same u (own_at p + i) 0 0 (omega (arith, long')))

@@ -8,7 +8,8 @@ ghost use Rattle.spec_text.specs.FirstPlaces.{in_first_places};
 ghost use Rattle.spec_format.specs.Plan.{tabulate};
 ghost use Rattle.spec_machine.specs.Ranges.{most_numbers};
 ghost use Rattle.spec_machine.specs.Steps.{replaced};
-ghost use Rattle.step_cells.specs.CellTable.{places, committed_at, entries_at, trans_at, dirty_at, curr_at, called_update_at};
+ghost use Rattle.step_cells.specs.CellTable.{places, committed_at, entries_at, trans_at, dirty_at, curr_at};
+ghost use Rattle.step_cells.specs.CellTable.{called_update_at};
 ghost use Rattle.step_cells.specs.Effects.{OwnStep, marking, unmarked, reclaiming};
 
 use step_cells::CELL_PLACES;
@@ -48,7 +49,8 @@ pub fn clear(cells: &mut [u32; CELL_PLACES], p: usize)
 // its row the old numbers of those written.
 fn reclaim(cells: &mut [u32; CELL_PLACES], p: usize, n: u32, addr: [u32; 16], old: [u32; 16])
     requires p_bound { (p < 16) × ((n ≤ 16) × ((i : ℕ) → get_or addr i 0 < 16)) }
-    requires n_len_bound { length (replaced (λ i. get_or addr i 0) (λ i. get_or old i 0) (places cells.old (dirty_at p) 16) n)
+    requires n_len_bound { length
+        (replaced (λ i. get_or addr i 0) (λ i. get_or old i 0) (places cells.old (dirty_at p) 16) n)
         ≤ 8 }
     ensures { OwnStep p (reclaiming (λ i. get_or addr i 0) (λ i. get_or old i 0) n) cells.old
         cells.new }
@@ -67,7 +69,8 @@ fn reclaim(cells: &mut [u32; CELL_PLACES], p: usize, n: u32, addr: [u32; 16], ol
 // H25 done: the replaced numbers reclaimed, and the marks cleared.
 pub fn decide(cells: &mut [u32; CELL_PLACES], p: usize, n: u32, addr: [u32; 16], old: [u32; 16])
     requires p_bound { (p < 16) × ((n ≤ 16) × ((i : ℕ) → get_or addr i 0 < 16)) }
-    requires n_len_bound { length (replaced (λ i. get_or addr i 0) (λ i. get_or old i 0) (places cells.old (dirty_at p) 16) n)
+    requires n_len_bound { length
+        (replaced (λ i. get_or addr i 0) (λ i. get_or old i 0) (places cells.old (dirty_at p) 16) n)
         ≤ 8 }
     ensures { OwnStep p (λ o. unmarked (reclaiming (λ i. get_or addr i 0) (λ i. get_or old i 0) n o))
         cells.old cells.new }

@@ -178,7 +178,8 @@ module _ {t : List ℕ} {ws : List Registers} {x : Tables} (k : Kept t ws x) whe
         who_runs =
             who-runs-same
             (who-runs-after t (machine_of x ws) _ (book_of x) job true 1 refl k.who_runs (plan-fits k job j.0)
-            (all-active x) (all-running x) (subst (λ z. OnlyDiffers (machine_of x ws) z job true) (sym machine) differs))
+            (all-active x) (all-running x)
+            (subst (λ z. OnlyDiffers (machine_of x ws) z job true) (sym machine) differs))
             (ap (λ (b : Book). b.active) book) (ap (λ (b : Book). b.running) book);
         entries_are = ap (λ (b : Book). b.entries) book;
         halt_is = ap (λ (b : Book). b.halt) book;

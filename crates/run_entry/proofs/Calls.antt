@@ -27,7 +27,8 @@ module _ (t : List ℕ) (job u : ℕ) (c c1 c2 d : List ℕ) (long : length c �
   first : Only (called_update_at job) (called_update_at job + 1) c c1
   first =
       rw put
-      (only_set (called_update_at job) (called_update_at job + 1) (called_update_at job) u c (omega arith) (omega arith))
+      (only_set (called_update_at job) (called_update_at job + 1) (called_update_at job) u c (omega arith)
+      (omega arith))
 
   -- who runs,
   second : Only running_at (active_at + 16) c1 c2
@@ -40,7 +41,8 @@ module _ (t : List ℕ) (job u : ℕ) (c c1 c2 d : List ℕ) (long : length c �
   -- and the count.
   third : Only entries_at (entries_at + 1) c2 d
   third =
-      rw count (only_set entries_at (entries_at + 1) entries_at (get_or c2 entries_at 0 + 1) c2 (omega arith) (omega arith))
+      rw count (only_set entries_at (entries_at + 1) entries_at (get_or c2 entries_at 0 + 1) c2 (omega arith)
+      (omega arith))
 
   -- The count before it.
   pub entries-kept : get_or c2 entries_at 0 ≡ get_or c entries_at 0

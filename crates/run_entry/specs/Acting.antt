@@ -1,6 +1,7 @@
 -- What acting on a judged entry promises: the tables are then the machine that the definitions give, and the book is
 -- kept up with it; and what it asks. Assumes nothing.
-use Rattle.std.specs.Prelude.{ℕ, ◌+◌, ◌≤◌, ◌<◌, ◌≡◌, Bool, true, cond, ◌&&◌, List, [], ◌∷◌, ◌++◌, eqb, length, get_or, set, take}
+use Rattle.std.specs.Prelude.{ℕ, ◌+◌, ◌≤◌, ◌<◌, ◌≡◌, Bool, true, cond, ◌&&◌, List, [], ◌∷◌, ◌++◌, eqb, length, get_or}
+use Rattle.std.specs.Prelude.{set, take}
 use Rattle.spec_format.specs.Plan.{Plan}
 use Rattle.spec_format.specs.Sound.{Sound}
 use Rattle.read_tables.specs.PlanTable.{plan_in}

@@ -192,7 +192,8 @@ opening-idle plan = at_rest (λ p. opening (tabulate 8 (λ i. p * plan.sizes.cop
 -- So a book in which no job is active, and none runs, is the opening's.
 pub who-runs-opening :
     (t : List ℕ) (b : Book) → ((k : ℕ) → eqb (get_or b.active k 0) 1 ≡ false)
-    → ((r : ℕ) → r < (sizes_in t).cards → get_or b.running r 0 ≡ (sizes_in t).jobs) → WhoRuns t (opening_of (plan_in t)) b
+    → ((r : ℕ) → r < (sizes_in t).cards → get_or b.running r 0 ≡ (sizes_in t).jobs)
+    → WhoRuns t (opening_of (plan_in t)) b
 who-runs-opening t b none-active none_runs =
     record {
       active_are = λ k h. none-active k ∙ sym (opening-idle (plan_in t) k);

@@ -47,7 +47,8 @@ module _ (plan : Plan) where
   unfolding run_of entered
   run_more es e going =
       foldl-append (entered plan) (begun plan) es (e ∷ [])
-      ∙ ap (λ f. unless_refused f (run_of plan es) (judged plan (run_of plan es) (judge plan (run_of plan es).machine e)))
+      ∙ ap (λ f. unless_refused f (run_of plan es)
+      (judged plan (run_of plan es) (judge plan (run_of plan es).machine e)))
       going
 
   -- A run that has stopped stays as it is.

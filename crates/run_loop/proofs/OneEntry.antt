@@ -34,7 +34,8 @@ use Rattle.run_loop.proofs.Others.{other-kept}
 
 -- A judgement that no refusal is was made while the run went on: it is the judgement on the entry, and no number of a
 -- refusal is kept.
-went_on : (halt : ℕ) (a j : Judgement) → refusal_in j ≡ none → unless_halted halt a ≡ j → (a ≡ j) × (halt_of halt ≡ none)
+went_on : (halt : ℕ) (a j : Judgement) → refusal_in j ≡ none → unless_halted halt a ≡ j → (a ≡ j)
+    × (halt_of halt ≡ none)
 went_on halt a j ok = by (eqb halt 0)
   where
     -- by whether the run goes on

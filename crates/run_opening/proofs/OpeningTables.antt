@@ -13,7 +13,8 @@ use Rattle.spec_format.proofs.Tabulated.{tabulate-same}
 use Rattle.read_tables.specs.PlanTable.{sizes_in, plan_in}
 use Rattle.spec_machine.specs.Working.{opening}
 use Rattle.spec_machine.specs.Machine.{opening_of, opening_store}
-use Rattle.step_cells.specs.CellTable.{entries_at, committed_at, halt_at, other_at, active_at, trans_at, numblks_at, own_at}
+use Rattle.step_cells.specs.CellTable.{entries_at, committed_at, halt_at, other_at, active_at, trans_at, numblks_at}
+use Rattle.step_cells.specs.CellTable.{own_at}
 use Rattle.step_cells.specs.CellTable.{dirty_at, curr_at, copy_at, called_update_at}
 use Rattle.step_cells.specs.Tables.{Tables, idle, cells_of, works_of, own_of, work_with}
 use Rattle.step_cells.specs.Book.{book_of}
@@ -48,7 +49,8 @@ high-left j l m = (inr (omega arith), (inr (omega arith), (inr (omega arith), λ
 module _ (t cells : List ℕ) (h : Parts (sizes_in t).jobs (sizes_in t).copies cells) where
   -- The cells.
   pub opened-cells :
-      (stat : List ℤ) → stat ≡ replicate 17 (pos (sizes_in t).jobs) → cells_of cells stat ≡ (opening_of (plan_in t)).cells
+      (stat : List ℤ) → stat ≡ replicate 17 (pos (sizes_in t).jobs) → cells_of cells stat
+      ≡ (opening_of (plan_in t)).cells
   unfolding opening_of
   opened-cells stat e =
       rw (

@@ -149,7 +149,8 @@ lines_fit :
 lines_fit form d [] p fits e = rw (at-end d (laid_out d) (d.lines + 1) p e) at fits
 lines_fit form d (l ∷ ls) p fits e =
     let r = parsed_in d l in
-    let read = no-fault (first_of (has_fault form d r) by_rank) (d.lines + 1) (read_lines form (after_line d l) ls) p e in
+    let read = no-fault (first_of (has_fault form d r) by_rank) (d.lines + 1) (read_lines form (after_line d l) ls) p
+    e in
     lines_fit form (after_line d l) ls p
     (after-fits d r.directive fits (line-fits d.plan.sizes.words l)) read.1
 

@@ -104,7 +104,8 @@ lines-refused :
     (form : Form) (d : Draft) (ls : List Line) (m : ℕ) → d.lines + length ls < m → LowOutcome m (read_lines form d ls)
 lines-refused form d [] m h = end_refused d (laid_out d) (d.lines + 1) m (omega arith)
 lines-refused form d (l ∷ ls) m h =
-    or-refused (first_of (has_fault form d (parsed_in d l)) by_rank) (d.lines + 1) m (read_lines form (after_line d l) ls)
+    or-refused (first_of (has_fault form d (parsed_in d l)) by_rank) (d.lines + 1) m
+    (read_lines form (after_line d l) ls)
     (omega arith)
     (lines-refused form (after_line d l) ls m (omega (arith, one_more d (parsed_in d l).directive)))
 

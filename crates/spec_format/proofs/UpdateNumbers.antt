@@ -92,7 +92,8 @@ lines-make form d [] s p e =
     rw (← at-end d (laid_out d) (d.lines + 1) p e) (append-nil _, λ u. append-nil _)
 lines-make form d (l ∷ ls) s p e =
     let r = parsed_in d l in
-    let read = no-fault (first_of (has_fault form d r) by_rank) (d.lines + 1) (read_lines form (after_line d l) ls) p e in
+    let read = no-fault (first_of (has_fault form d r) by_rank) (d.lines + 1) (read_lines form (after_line d l) ls) p
+    e in
     let clear : Clear (has_fault form d r) = subst (Found (has_fault form d r)) read.0 (line-lowest form d r) in
     let is : List (Option Directive) = directives s ls in
     let words : ℕ = d.plan.sizes.words in

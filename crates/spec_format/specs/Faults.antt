@@ -1,7 +1,8 @@
 -- The faults of a line, one clause for each row of the table: what the lines before have said is a draft of the plan,
 -- and a line has a fault or not, whatever other faults it has. The rank of a fault says when it is judged. Fault, its
 -- variants and Form are declared in src/lib.rt. Assumes nothing.
-use Rattle.std.specs.Prelude.{ℕ, ◌+◌, ◌*◌, Bool, true, false, not, ◌&&◌, ◌||◌, List, [], ◌∷◌, ◌++◌, ltb, leb, eqb, length}
+use Rattle.std.specs.Prelude.{ℕ, ◌+◌, ◌*◌, Bool, true, false, not, ◌&&◌, ◌||◌, List, [], ◌∷◌, ◌++◌, ltb, leb, eqb}
+use Rattle.std.specs.Prelude.{length}
 use Rattle.std.proofs.Math.Option.{Option, none, some}
 use Rattle.spec_format.specs.declared.Kind.{Kind}
 use Rattle.spec_format.specs.declared.Fault.{Fault}

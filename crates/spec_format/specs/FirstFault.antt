@@ -1,7 +1,8 @@
 -- "The first line with a fault counts", and in it the fault that is judged first: which faults a text has, by line and
 -- rank, with no regard to how it is read. proofs/FirstFault.antt shows that a text is refused by just the first of
 -- them. Assumes nothing.
-use Rattle.std.specs.Prelude.{ℕ, zero, suc, ◌<◌, ◌≡◌, Bool, true, false, not, ◌&&◌, List, [], ◌∷◌, ltb, eqb, length, take, drop}
+use Rattle.std.specs.Prelude.{ℕ, zero, suc, ◌<◌, ◌≡◌, Bool, true, false, not, ◌&&◌, List, [], ◌∷◌, ltb, eqb, length}
+use Rattle.std.specs.Prelude.{take, drop}
 use Rattle.spec_text.specs.Lines.{Line, lines}
 use Rattle.spec_format.specs.declared.Fault.{Fault}
 use Rattle.spec_format.specs.declared.Form.{Form}

@@ -45,8 +45,13 @@ abbrev pub directive : Kind → List ℕ → Option Directive
 directive Kind.Plan ns =
     some
     (plan
-    (record
-    { cards = get_or ns 0 0; jobs = get_or ns 1 0; blocks = get_or ns 2 0; words = get_or ns 3 0; copies = get_or ns 4 0 }))
+    (record {
+      cards = get_or ns 0 0;
+      jobs = get_or ns 1 0;
+      blocks = get_or ns 2 0;
+      words = get_or ns 3 0;
+      copies = get_or ns 4 0;
+    }))
 directive Kind.Job ns = some (job (record { card = get_or ns 0 0; priority = get_or ns 1 0 }))
 directive Kind.Block ns = some (block ns)
 directive Kind.Update ns = some (update (get_or ns 0 0))

@@ -1,7 +1,8 @@
 -- "A line `step card n` .. shall do what n lines `step card` do": the two texts, byte for byte, and what it means that
 -- they say the same. proofs/RunIsSteps.antt shows it of every text and every place that the line can stand in. Assumes
 -- nothing.
-use Rattle.std.specs.Prelude.{ℕ, zero, suc, ◌+◌, ◌-◌, ◌≤◌, ◌≡◌, Bool, true, cond, List, [], ◌∷◌, ◌++◌, map, ltb, eqb, length}
+use Rattle.std.specs.Prelude.{ℕ, zero, suc, ◌+◌, ◌-◌, ◌≤◌, ◌≡◌, Bool, true, cond, List, [], ◌∷◌, ◌++◌, map, ltb, eqb}
+use Rattle.std.specs.Prelude.{length}
 use Rattle.spec_text.specs.Bytes.{bytes}
 use Rattle.spec_text.specs.WrittenLines.{line_of}
 use Rattle.spec_format.specs.declared.Form.{Form}

@@ -188,7 +188,8 @@ module _ (plan : Plan) (s : State) (D : EpochsHold (layout plan) s) (g : Ghost) 
 
     -- The copy lists, where the running job's is as it was.
     copies-same :
-        (j : Working) → j.copy ≡ (job p).copy → ◌≡◌ {A = ℕ → ℕ → ℕ} (λ x. copy_of (upd job p j x)) (λ x. copy_of (job x))
+        (j : Working) → j.copy ≡ (job p).copy
+        → ◌≡◌ {A = ℕ → ℕ → ℕ} (λ x. copy_of (upd job p j x)) (λ x. copy_of (job x))
     copies-same j e = fun_ext (λ x. upd-map copy_of job p j x (ap (λ l i. get_or l i 0) e))
 
     -- Stores to Ann, Trans and Stat that nothing here sees.

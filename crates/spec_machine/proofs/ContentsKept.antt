@@ -85,7 +85,8 @@ use Rattle.spec_machine.proofs.Sizes.{Roomy, Fits}
 use Rattle.spec_format.proofs.Tabulated.{length-tabulate}
 use Rattle.spec_machine.proofs.Tests.{choice, either, shut-test, test, store-elim, and_l, and_r}
 use Rattle.spec_machine.proofs.Tests.{or_l, or_r, same_version_lem, failed, stale}
-use Rattle.spec_machine.proofs.SmallSteps.{Op, Op.check, Op.list, Op.copy, put, exec, ahead, Attempt, attempt, copy_of, Layout, layout}
+use Rattle.spec_machine.proofs.SmallSteps.{Op, Op.check, Op.list, Op.copy, put, exec, ahead, Attempt, attempt, copy_of}
+use Rattle.spec_machine.proofs.SmallSteps.{Layout, layout}
 use Rattle.spec_machine.proofs.Attempts.{current, passed, took, lists, copies, seen, Shape, Own, Live}
 use Rattle.spec_machine.proofs.AttemptSteps.{
   own-check,

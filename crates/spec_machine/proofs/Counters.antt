@@ -150,7 +150,8 @@ module _ (opening : List ℕ) (updates : List (List Move)) (entries : List Entry
   -- So no entry lowers it.
   pub counter-never-falls :
       (n : ℕ)
-      → get_or (memory opening updates entries commits n) d 0 ≤ get_or (memory opening updates entries commits (suc n)) d 0
+      → get_or (memory opening updates entries commits n) d 0 ≤ get_or
+      (memory opening updates entries commits (suc n)) d 0
   counter-never-falls n = omega (arith, counter-total n, counter-total (suc n))
 
 -- The word of a block at a word's place, where the block is the word's.

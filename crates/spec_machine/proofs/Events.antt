@@ -263,7 +263,8 @@ module _ (n : ℕ) where
       by-test (f x) (λ t. rw t (within-tail x h w)) (λ t. rw t (within-after f h (within-tail x h w)))
 
   -- and of those before it.
-  within-before : (f : Event → Bool) (h : List Event) → Within n (commits_in h) → Within n (commits_in (before_first f h))
+  within-before : (f : Event → Bool) (h : List Event) → Within n (commits_in h)
+      → Within n (commits_in (before_first f h))
   within-before f [] w = w
   within-before f (x ∷ h) w =
       by-test (f x) (λ t. rw t no-commit)

@@ -108,7 +108,8 @@ module _ {ℓ} {A : Type ℓ} (l : List A) (at : ℕ) (part : List A) (n : ℕ) 
 
   -- The same, read before and behind that part.
   pub paste-outside :
-      at ≤ length l → n ≤ length part → (k : ℕ) → (k < at) ⊎ (at + n ≤ k) → get_or (paste l at part n) k d ≡ get_or l k d
+      at ≤ length l → n ≤ length part → (k : ℕ) → (k < at) ⊎ (at + n ≤ k) → get_or (paste l at part n) k d
+      ≡ get_or l k d
   paste-outside a b k (inl h) =
       sym (get_or-take (at + n) (paste l at part n) k d (omega arith))
       ∙ ap (λ x. get_or x k d) (take-paste l at part n a b)

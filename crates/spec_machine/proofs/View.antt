@@ -41,7 +41,8 @@ is_undecided finished = false
 
 -- What a number means as a status, where there are n jobs.
 unfoldable pub status_in : ℕ → ℤ → Status
-status_in n x = cond (same_status x (negsuc 0)) undecided (cond (same_status x (pos n)) finished (decided (job_named x)))
+status_in n x = cond (same_status x (negsuc 0)) undecided
+    (cond (same_status x (pos n)) finished (decided (job_named x)))
 
 -- Statuses are −1 or no less than 0.
 abbrev pub Proper : ℤ → Type 0

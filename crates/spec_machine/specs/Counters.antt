@@ -1,6 +1,7 @@
 -- Event counters: words that the updates only add to. "The panel standard .. now has event counters stand at the top
 -- instead of starting again": what such a word shows in every state (proofs/Counters.antt). Assumes nothing.
-use Rattle.std.specs.Prelude.{ℕ, zero, suc, ◌+◌, ◌%◌, min, ◌≡◌, Bool, true, false, cond, not, ◌&&◌, List, [], ◌∷◌, map, eqb, length, get_or}
+use Rattle.std.specs.Prelude.{ℕ, zero, suc, ◌+◌, ◌%◌, min, ◌≡◌, Bool, true, false, cond, not, ◌&&◌, List, [], ◌∷◌, map}
+use Rattle.std.specs.Prelude.{eqb, length, get_or}
 use Rattle.spec_text.specs.Numbers.{largest}
 use Rattle.spec_format.specs.declared.Entry.{Entry}
 use Rattle.spec_format.specs.declared.Move.{Move}

@@ -2,7 +2,8 @@
 -- and the running job's working record, and gives that job's next record and at most one store to a shared cell.
 -- Machine.antt says how a store is carried out, Moves.antt which reads and writes a move has. `cond t x y` is x where t
 -- holds, and else y. Assumes nothing.
-use Rattle.std.specs.Prelude.{ℕ, zero, suc, ◌+◌, ◌%◌, Bool, true, false, cond, not, ◌&&◌, ◌||◌, List, [], ◌∷◌, ◌++◌, eqb, ltb, ℤ, pos, get_or}
+use Rattle.std.specs.Prelude.{ℕ, zero, suc, ◌+◌, ◌%◌, Bool, true, false, cond, not, ◌&&◌, ◌||◌, List, [], ◌∷◌, ◌++◌}
+use Rattle.std.specs.Prelude.{eqb, ltb, ℤ, pos, get_or}
 use Rattle.spec_text.specs.FirstPlaces.{in_first_places}
 use Rattle.spec_format.specs.Plan.{Plan, job_in}
 use Rattle.spec_machine.specs.declared.Stage.{Stage}

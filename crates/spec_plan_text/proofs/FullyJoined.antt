@@ -172,7 +172,8 @@ no_one (run card n) =
 
 -- Runs of different cards are no steps of one card.
 cards-differ :
-    (card n other m : ℕ) → (card ≡ other → ⊥) → same_card (entry_fields (run card n)) (entry_fields (run other m)) ≡ false
+    (card n other m : ℕ) → (card ≡ other → ⊥) → same_card (entry_fields (run card n)) (entry_fields (run other m))
+    ≡ false
 cards-differ card n other m h = decimals-differ card other h
 
 -- Entry lines with the longest runs.

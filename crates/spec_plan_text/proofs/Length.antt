@@ -32,7 +32,8 @@ use Rattle.spec_report.specs.Report.{joined}
 use Rattle.spec_report.proofs.JoinedLengths.{append-short, joined-short}
 use Rattle.spec_plan_text.specs.EntryLines.{EntryLine, call, run, run_bytes, entry_bytes, entry_line_bytes}
 use Rattle.spec_plan_text.specs.EntryLines.{longest_runs, singles_of, singles_in, plain}
-use Rattle.spec_plan_text.specs.PlanText.{plan_line, job_line, block_words, block_line, move_line, move_in, update_lines}
+use Rattle.spec_plan_text.specs.PlanText.{plan_line, job_line, block_words, block_line, move_line, move_in}
+use Rattle.spec_plan_text.specs.PlanText.{update_lines}
 use Rattle.spec_plan_text.specs.PlanText.{job_lines, opening_block_lines, all_update_lines, plan_text, text_of}
 use Rattle.spec_plan_text.specs.LongestText.{longest_plan_line, longest_job_line, longest_block_line}
 use Rattle.spec_plan_text.specs.LongestText.{longest_update_line, longest_move_line, longest_entry_line}
@@ -260,6 +261,7 @@ pub text-short :
     → length (text_of plan es) ≤ longest_text
 unfolding text_of
 text-short plan es ok h few =
-    append-short (plan_text plan) (entry_line_bytes (longest_runs es)) longest_plan_text (most_entries * longest_entry_line)
+    append-short (plan_text plan) (entry_line_bytes (longest_runs es)) longest_plan_text
+    (most_entries * longest_entry_line)
     (plan-text-short plan ok)
     (omega (arith, entries-short plan ok es h))

@@ -30,7 +30,8 @@ use Rattle.spec_machine.specs.Working.{no_work, opening}
 use Rattle.spec_machine.specs.Memory.{Commit, entry_at, job_of, update_of}
 use Rattle.spec_machine.specs.Machine.{Machine, work_of, opening_of, item_of}
 use Rattle.spec_machine.specs.Entries.{judge}
-use Rattle.spec_machine.specs.History.{Event, calls, is_commit, commits_in, latest, call_event, item_event, refusal_in, Run}
+use Rattle.spec_machine.specs.History.{Event, calls, is_commit, commits_in, latest, call_event, item_event, refusal_in}
+use Rattle.spec_machine.specs.History.{Run}
 use Rattle.spec_machine.specs.History.{unless_refused, begun, judged, entered, run_of}
 use Rattle.spec_machine.proofs.ListMachine.{job-seen, StepJudged, call-judged, step-judged}
 use Rattle.spec_machine.proofs.Events.{length_last, latest-same, latest-last, commit_of, commits-out, commits-last}
@@ -288,7 +289,8 @@ same-call es n z =
     get_or-map plain es (n - 1) no_entry ∙ rw (eq-eqb (entry_at es n).kind 0 z)
 
 -- So the lines of commits are the same.
-same-commits : (es : List Entry) (cs : List Commit) → CallsAt es cs → commit_lines (map plain es) cs ≡ commit_lines es cs
+same-commits : (es : List Entry) (cs : List Commit) → CallsAt es cs → commit_lines (map plain es) cs
+    ≡ commit_lines es cs
 same-commits es [] all = refl
 same-commits es (c ∷ cs) all =
     let job : job_of (map plain es) c.call ≡ job_of es c.call

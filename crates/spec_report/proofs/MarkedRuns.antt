@@ -40,8 +40,14 @@ rows =
     -- "With 34: T's report, ending `end 14 40`."
     ∷ record { text = T 34; printed = "commit\t29\t0\t0\nblock\t7\nend\t14\t40\n" }
     -- "T without its move returns after 22 steps, commit at entry 18": one more step finds no job active
-    ∷ record { text = one_job 1 5 (update "" (call_and_steps 22)); printed = "commit\t18\t0\t0\nblock\t5\nend\t0\t27\n" }
-    ∷ record { text = one_job 1 5 (update "" (call_and_steps 23)); printed = "commit\t18\t0\t0\nblock\t5\nend\t14\t28\n" }
+    ∷ record {
+      text = one_job 1 5 (update "" (call_and_steps 22));
+      printed = "commit\t18\t0\t0\nblock\t5\nend\t0\t27\n";
+    }
+    ∷ record {
+      text = one_job 1 5 (update "" (call_and_steps 23));
+      printed = "commit\t18\t0\t0\nblock\t5\nend\t14\t28\n";
+    }
     -- "With `set 0 9`: 30 steps, commit at 26."
     ∷ record {
       text = one_job 1 5 (update "set\t0\t9\n" (call_and_steps 30));
@@ -124,7 +130,8 @@ rows =
     }
     -- "event counters stand at the top": one that stops at its second call, and stands at its third;
     ∷ record {
-      text = one_job 1 4294967290 (update "add\t0\t0\t4\n" (call_and_steps 33 ++ (call_and_steps 33 ++ call_and_steps 33)));
+      text = one_job 1 4294967290
+          (update "add\t0\t0\t4\n" (call_and_steps 33 ++ (call_and_steps 33 ++ call_and_steps 33)));
       printed = "commit\t29\t0\t0\ncommit\t63\t0\t0\ncommit\t97\t0\t0\nblock\t4294967295\nend\t0\t107\n";
     }
     -- "`open job status` for each active job, by job number", of job 1 alone and of both

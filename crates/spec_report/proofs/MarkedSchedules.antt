@@ -60,7 +60,11 @@ rows =
       printed = "commit\t29\t0\t0\nblock\t7\nend\t14\t35\n";
     }
     -- "before any runs, .. the first record of another kind gives 3": the record before it would be refused
-    ∷ record { text = plan_of_t; records = step_record 0 ∷ other_record 2 ∷ other_record 3 ∷ []; printed = "end\t3\t2\n" }
+    ∷ record {
+      text = plan_of_t;
+      records = step_record 0 ∷ other_record 2 ∷ other_record 3 ∷ [];
+      printed = "end\t3\t2\n";
+    }
     -- "of another kind": 3 as well as 2, and the largest
     ∷ record { text = plan_of_t; records = call_record ∷ other_record 3 ∷ []; printed = "end\t3\t2\n" }
     ∷ record { text = plan_of_t; records = other_record 4294967295 ∷ []; printed = "end\t3\t1\n" }

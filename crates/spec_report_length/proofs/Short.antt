@@ -1,5 +1,5 @@
--- No report is longer than longest_report (report-short), whether the entries stand in a text (printed-short) or come as
--- records (schedule-short), and none is empty (report-some, printed-some).
+-- No report is longer than longest_report (report-short), whether the entries stand in a text (printed-short) or come
+-- as records (schedule-short), and none is empty (report-some, printed-some).
 --
 -- In plain words. An accepted schedule has at most 4,000 entries, so a run has at most 4,000 events and commits, each
 -- at an entry of at most four digits; a call that is committed names one of at most 16 jobs and of at most 32 updates
@@ -136,7 +136,8 @@ module _ (plan : Plan) (ok : Sound plan) where
   run_short es few e low =
       let m = (run_of plan es).machine in
       let behind : List ℕ = open_lines plan m ++ report_end e in
-      append-short (commit_lines es (commits_in (run_of plan es).history)) (block_lines plan m ++ behind) longest_commits _
+      append-short (commit_lines es (commits_in (run_of plan es).history)) (block_lines plan m ++ behind)
+      longest_commits _
       (run-commits-short es few)
       (append-short (block_lines plan m) behind longest_blocks _ (blocks-short m)
       (append-short (open_lines plan m) (report_end e) longest_opens longest_end (opens-short m (run-statuses es))

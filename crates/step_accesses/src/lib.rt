@@ -3,7 +3,8 @@
 
 ghost use Rattle.std.specs.Prelude.{◌≡◌, cond, ◌<◌, eqb, length, get_or};
 ghost use Rattle.spec_machine.specs.Memory.{sum as sum_of};
-ghost use Rattle.spec_machine.specs.Moves.{accesses as accessesOf, read, word_of, word_written as written_by, after_list};
+ghost use Rattle.spec_machine.specs.Moves.{accesses as accessesOf, read, word_of, word_written as written_by};
+ghost use Rattle.spec_machine.specs.Moves.{after_list};
 ghost use Rattle.step_cells.specs.Fits.{move_for, InMove};
 ghost use Rattle.step_accesses.specs.Onward.{onward_in};
 

@@ -25,11 +25,14 @@ pub own_out :
     {lo hi : ℕ} {t u : List ℕ} → Only lo hi t u → (q : ℕ) → (own_at q + 64 ≤ lo) ⊎ (hi ≤ own_at q)
     → own_of u q ≡ own_of t q
 own_out {lo} {hi} {t} {u} o q apart =
-    let a : places u (own_at q) 16 ≡ places t (own_at q) 16 = places-out o (own_at q) 16 (by 0 16 apart (omega arith)) in
+    let a : places u (own_at q) 16 ≡ places t (own_at q) 16 =
+    places-out o (own_at q) 16 (by 0 16 apart (omega arith)) in
     let b : places u (curr_at q) 16 ≡ places t (curr_at q) 16 =
     places-out o (curr_at q) 16 (by 16 16 apart (omega arith)) in
-    let c : places u (copy_at q) 8 ≡ places t (copy_at q) 8 = places-out o (copy_at q) 8 (by 32 8 apart (omega arith)) in
-    let d : get_or u (called_update_at q) 0 ≡ get_or t (called_update_at q) 0 = o.kept (called_update_at q) (one apart) in
+    let c : places u (copy_at q) 8 ≡ places t (copy_at q) 8 =
+    places-out o (copy_at q) 8 (by 32 8 apart (omega arith)) in
+    let d : get_or u (called_update_at q) 0 ≡ get_or t (called_update_at q) 0 =
+    o.kept (called_update_at q) (one apart) in
     rw (a, b, c, d)
   where
     by : (k n : ℕ) → (own_at q + 64 ≤ lo) ⊎ (hi ≤ own_at q) → k + n ≤ 64
@@ -84,7 +87,8 @@ pub works-step :
     → works_of u (set ws p w) ≡ set (works_of t ws) p (work_with (own_of u p) w)
 unfolding works_of
 works-step t u ws p w l all h =
-    tabulate-set 16 (λ q. work_with (own_of t q) (get_or ws q idle)) (λ q. work_with (own_of u q) (get_or (set ws p w) q idle))
+    tabulate-set 16 (λ q. work_with (own_of t q) (get_or ws q idle))
+    (λ q. work_with (own_of u q) (get_or (set ws p w) q idle))
     no_work p
     (λ q m c.
     ap (λ o. work_with o (get_or (set ws p w) q idle)) (h q m c)

@@ -27,4 +27,5 @@ bits-test x y fx fy = by (eqb (of_z w32 x) (of_z w32 y)) refl
     by true e =
         e ∙ sym (rw (bits-same x y fx fy (eqb-true (of_z w32 x) (of_z w32 y) e)) (same_refl y))
     by false e =
-        e ∙ sym (is_false (same_status x y) (λ s. eqb-false (of_z w32 x) (of_z w32 y) e (ap (of_z w32) (same_true x y s))))
+        e ∙ sym (is_false (same_status x y)
+        (λ s. eqb-false (of_z w32 x) (of_z w32 y) e (ap (of_z w32) (same_true x y s))))

@@ -51,7 +51,8 @@ behind-run e n line one =
     )
 
 -- Any other entry behind a line is a line by itself.
-behind-other : (e : Entry) (n : Note) → (OneRun e n → ⊥) → entry_behind e (line_noted n) ≡ line_noted n ∷ line_alone e ∷ []
+behind-other : (e : Entry) (n : Note) → (OneRun e n → ⊥) → entry_behind e (line_noted n)
+    ≡ line_noted n ∷ line_alone e ∷ []
 behind-other e n other =
     by-test (eqb e.kind 0)
     (λ t. rw t)

@@ -85,7 +85,8 @@ module _ (text t notes : List ℕ) (parsed : Parsed) (lines : ℕ) (reads : Read
       → Opened t cells stat store → length commits ≡ 4000 → take (length ls) list ≡ es
       → Starts t (take parsed.entries list) (lent cells stat store empty_rows empty_rows empty_rows commits)
   the-start cells stat store commits list o all is =
-      subst (λ l. Starts t l (lent cells stat store empty_rows empty_rows empty_rows commits)) (sym (records-are list is))
+      subst (λ l. Starts t l (lent cells stat store empty_rows empty_rows empty_rows commits))
+      (sym (records-are list is))
       (opened-starts sound-plan o es few-es commits all)
 
   -- The line of the end is one of the text's.

@@ -12,7 +12,8 @@ use Rattle.spec_format.specs.Plan.{Plan}
 use Rattle.spec_report.specs.declared.End.{End}
 use Rattle.spec_report.specs.Outcomes.{refused, written, left}
 use Rattle.spec_plan_text.specs.EntryLines.{entry_line_bytes}
-use Rattle.spec_plan_text.specs.PlanText.{plan_line, job_lines, opening_block_lines, all_update_lines, plan_text, text_of}
+use Rattle.spec_plan_text.specs.PlanText.{plan_line, job_lines, opening_block_lines, all_update_lines, plan_text}
+use Rattle.spec_plan_text.specs.PlanText.{text_of}
 use Rattle.spec_plan_text.specs.Writing.{written_at}
 use Rattle.read_tables.specs.PlanTable.{plan_in}
 use Rattle.report_ending.specs.Finishing.{WrittenOut}
@@ -32,7 +33,8 @@ plan-parts plan =
 module _ (t : List ℕ) (n : ℕ) (notes : List ℕ) where
   -- The three parts are the text,
   pub text-parts :
-      (before_updates (plan_in t) ++ all_update_lines (plan_in t)) ++ entry_line_bytes (lines_noted n notes) ≡ text_in t n notes
+      (before_updates (plan_in t) ++ all_update_lines (plan_in t)) ++ entry_line_bytes (lines_noted n notes)
+      ≡ text_in t n notes
   text-parts = ap (λ (s : List ℕ). s ++ entry_line_bytes (lines_noted n notes)) (plan-parts (plan_in t))
 
   -- and so long.
@@ -44,7 +46,8 @@ module _ (t : List ℕ) (n : ℕ) (notes : List ℕ) where
       omega (
         arith,
         ap length text-parts,
-        length-append (before_updates (plan_in t) ++ all_update_lines (plan_in t)) (entry_line_bytes (lines_noted n notes)),
+        length-append (before_updates (plan_in t) ++ all_update_lines (plan_in t))
+            (entry_line_bytes (lines_noted n notes)),
         length-append (before_updates (plan_in t)) (all_update_lines (plan_in t)),
       )
 

@@ -31,17 +31,18 @@ unfolding write_schedule
 refused_as text es e is = ap (λ o. after_run o (text_read (reading Form.PlanAlone text) es)) is
 
 -- Few records are noted.
-module _ {es : List Entry} {count : ℕ} {notes : List ℕ} (noted : Noted es count notes) (few : count ≤ most_entries) where
-  -- There are as many single entries.
-  as_many : length (listed_in count notes) ≡ count
-  as_many =
-      sym (entries-many (listed_in count notes))
-      ∙ ap length (noted.entries_are few)
-      ∙ sym noted.count_is
+module _ {es : List Entry} {count : ℕ} {notes : List ℕ} (noted : Noted es count notes) (few : count ≤ most_entries)
+  where
+    -- There are as many single entries.
+    as_many : length (listed_in count notes) ≡ count
+    as_many =
+        sym (entries-many (listed_in count notes))
+        ∙ ap length (noted.entries_are few)
+        ∙ sym noted.count_is
 
-  -- So the notes hold the records.
-  pub holding : Holding count notes count
-  holding = (few, (few, sym as_many))
+    -- So the notes hold the records.
+    pub holding : Holding count notes count
+    holding = (few, (few, sym as_many))
 
 -- The records have run, and none is of another kind.
 pub the-writing : {text t : List ℕ} {lines : ℕ} → Accepts text lines t → (es : List Entry) → length es ≤ most_entries

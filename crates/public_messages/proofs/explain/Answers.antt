@@ -10,4 +10,5 @@ pub returns-clause-buffer_after : goal.returns-clause-buffer_after
 returns-clause-buffer_after c =
     (let some : 0 < c.args.number = omega (arith, c.if-number-eq0.false) in
     let room : 161 ≤ length c.args.buffer.now = omega (arith, c.put_refusal-arg-1.given.0.1) in
-    refused-said c.args.number c.args.line c.args.entry some (omega (arith, c.if-number-ge-NUMBERS.false)) room c.put_refusal.ensures).1.1
+    refused-said c.args.number c.args.line c.args.entry some (omega (arith, c.if-number-ge-NUMBERS.false)) room
+    c.put_refusal.ensures).1.1

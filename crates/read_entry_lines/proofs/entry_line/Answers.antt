@@ -10,7 +10,8 @@ use Rattle.read_entry_lines.proofs.entry_line.Goals as goal
 pub returns : goal.returns
 returns c =
     let says : let a = c.args in
-    entry_directive a.kind a.numbers ≡ some (entry c.entry_of-e.result c.times_of-times.result) = ap (entry_directive c.args.kind) c.in-Are.is
+    entry_directive a.kind a.numbers ≡ some (entry c.entry_of-e.result c.times_of-times.result) =
+    ap (entry_directive c.args.kind) c.in-Are.is
     ∙ (λ i. some (entry (sym c.entry_of-e.ensures i) (sym c.times_of-times.ensures i))) in
     λ k t h.
     entry_read k _ t _ _ _ c.entry_of-e.result c.times_of-times.result (says)

@@ -42,7 +42,9 @@ pub returns-then-at-line-clause-out_after : goal.returns-then-at-line-clause-out
 returns-then-at-line-clause-out_after c =
     let l = c.loop-i in
     let a = c.args in
-    let k : length a.out.now - l.i ≡ 0 = omega arith in sym (l.invariant.1.1.1 ∙ rw k (read_all a.line.now l.out l.at l.i (omega arith) c.if-at-line.true))
+    let k : length a.out.now - l.i ≡ 0 =
+    omega arith in sym (l.invariant.1.1.1
+    ∙ rw k (read_all a.line.now l.out l.at l.i (omega arith) c.if-at-line.true))
 
 pub returns-clause-out_after : goal.returns-clause-out_after
 returns-clause-out_after c =

@@ -13,23 +13,27 @@ use Rattle.read_line.proofs.read_line.Goals as goal
 
 pub returns-then-is_unknown : goal.returns-then-is_unknown
 returns-then-is_unknown c =
-    let named : kind_of (take (place_of 9 c.args.line.now 0) c.args.line.now) ≡ c.kind_of-kind.result = ap (λ (n : ℕ). kind_of (take n c.args.line.now)) (sym c.find-end.ensures.0)
+    let named : kind_of (take (place_of 9 c.args.line.now 0) c.args.line.now) ≡ c.kind_of-kind.result =
+    ap (λ (n : ℕ). kind_of (take n c.args.line.now)) (sym c.find-end.ensures.0)
     ∙ sym c.kind_of-kind.ensures in
     done-unknown _ _ _ _ _ c.kind_of-kind.result (named) (sym c.is_unknown.ensures ∙ c.if-is_unknown.true)
 
 pub read_kind-requires-clause-at_in_bounds : goal.read_kind-requires-clause-at_in_bounds
 read_kind-requires-clause-at_in_bounds c =
-    let here : stands c.args.form (draft_of c.args.p c.args.plan.now) c.kind_of-kind.result ≡ true = sym c.can_stand.ensures ∙ c.if-can_stand.true in (
+    let here : stands c.args.form (draft_of c.args.p c.args.plan.now) c.kind_of-kind.result ≡ true =
+    sym c.can_stand.ensures ∙ c.if-can_stand.true in (
       omega (arith, c.find-end.ensures.1.1),
       (standing c.args.form c.args.p c.args.plan.now c.kind_of-kind.result (here), c.requires.0),
     )
 
 pub returns-then-can_stand : goal.returns-then-can_stand
 returns-then-can_stand c =
-    let named : kind_of (take (place_of 9 c.args.line.now 0) c.args.line.now) ≡ c.kind_of-kind.result = ap (λ (n : ℕ). kind_of (take n c.args.line.now)) (sym c.find-end.ensures.0)
+    let named : kind_of (take (place_of 9 c.args.line.now 0) c.args.line.now) ≡ c.kind_of-kind.result =
+    ap (λ (n : ℕ). kind_of (take n c.args.line.now)) (sym c.find-end.ensures.0)
     ∙ sym c.kind_of-kind.ensures in
     let known : is_unknown c.kind_of-kind.result ≡ false = sym c.is_unknown.ensures ∙ c.if-is_unknown.false in
-    let here : stands c.args.form (draft_of c.args.p c.args.plan.now) c.kind_of-kind.result ≡ true = sym c.can_stand.ensures ∙ c.if-can_stand.true in
+    let here : stands c.args.form (draft_of c.args.p c.args.plan.now) c.kind_of-kind.result ≡ true =
+    sym c.can_stand.ensures ∙ c.if-can_stand.true in
     done-read _ _ _ _ _ c.kind_of-kind.result (named) (known) _
     c.find-end.result
     c.find-end.ensures.0
@@ -38,7 +42,8 @@ returns-then-can_stand c =
 
 pub returns : goal.returns
 returns c =
-    let named : kind_of (take (place_of 9 c.args.line.now 0) c.args.line.now) ≡ c.kind_of-kind.result = ap (λ (n : ℕ). kind_of (take n c.args.line.now)) (sym c.find-end.ensures.0)
+    let named : kind_of (take (place_of 9 c.args.line.now 0) c.args.line.now) ≡ c.kind_of-kind.result =
+    ap (λ (n : ℕ). kind_of (take n c.args.line.now)) (sym c.find-end.ensures.0)
     ∙ sym c.kind_of-kind.ensures in
     let known : is_unknown c.kind_of-kind.result ≡ false = sym c.is_unknown.ensures ∙ c.if-is_unknown.false in
     done-misplaced _ _ _ _ _ c.kind_of-kind.result (named) (known)

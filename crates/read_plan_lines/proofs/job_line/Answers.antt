@@ -23,7 +23,8 @@ returns c =
     let says-job : directive_of Kind.Job (numbers 2 (fields_at c.args.line.now c.args.at))
     ≡ some (job (the_job)) = rw (← c.read_numbers.ensures.out_after, c.in-Read.is) in
     let card-test : leb (sizes_in c.args.plan.now).cards (the_job).card
-    ≡ leb c.sizes-sizes.result.cards c.wide.result = sym (ap₂ (λ (z : Sizes) n. leb z.cards n) c.sizes-sizes.ensures c.wide.ensures) in
+    ≡ leb c.sizes-sizes.result.cards c.wide.result =
+    sym (ap₂ (λ (z : Sizes) n. leb z.cards n) c.sizes-sizes.ensures c.wide.ensures) in
     λ e.
     job_read _ c.args.plan.now _ _ e _ (the_job) (says-job)
     (rw (

@@ -20,5 +20,6 @@ returns-then-same_job c =
     ∙ ap₂ (λ x y. eqb x c.args.card && eqb y c.args.priority) c.card.ensures
     c.priority.ensures) in
     sym
-    (found (is (record { card = c.args.card; priority = c.args.priority })) (job_at c.args.plan.now) c.args.n c.loop-i.i (omega arith)
+    (found (is (record { card = c.args.card; priority = c.args.priority })) (job_at c.args.plan.now) c.args.n
+    c.loop-i.i (omega arith)
     (tested ∙ c.if-same_job.true))

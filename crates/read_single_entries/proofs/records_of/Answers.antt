@@ -15,7 +15,8 @@ use Rattle.read_single_entries.proofs.records_of.Goals as goal
 pub bounds-records-at : goal.bounds-records-at
 bounds-records-at c =
     let notes : List ℕ = c.args.notes.now in
-    let ends : c.loop-i.at + c.times_at.result ≡ length (listed_in (c.loop-i.i + 1) (notes)) = omega (arith, c.loop-i.invariant.2, c.times_at.ensures, one_more (notes) c.loop-i.i) in
+    let ends : c.loop-i.at + c.times_at.result ≡ length (listed_in (c.loop-i.i + 1) (notes)) =
+    omega (arith, c.loop-i.invariant.2, c.times_at.ensures, one_more (notes) c.loop-i.i) in
     let fits : c.loop-i.at + c.times_at.result ≤ 4000 = omega (
       arith,
       ends,
@@ -28,7 +29,8 @@ bounds-records-at c =
 pub loop-at-preserved : goal.loop-at-preserved
 loop-at-preserved c =
     let notes : List ℕ = c.args.notes.now in
-    let ends : c.loop-i.at + c.times_at.result ≡ length (listed_in (c.loop-i.i + 1) (notes)) = omega (arith, c.loop-i.invariant.2, c.times_at.ensures, one_more (notes) c.loop-i.i) in
+    let ends : c.loop-i.at + c.times_at.result ≡ length (listed_in (c.loop-i.i + 1) (notes)) =
+    omega (arith, c.loop-i.invariant.2, c.times_at.ensures, one_more (notes) c.loop-i.i) in
     let fits : c.loop-i.at + c.times_at.result ≤ 4000 = omega (
       arith,
       ends,
@@ -53,7 +55,8 @@ loop-at-preserved c =
 pub loop-i-preserved : goal.loop-i-preserved
 loop-i-preserved c =
     let notes : List ℕ = c.args.notes.now in
-    let ends : c.loop-i.at + c.times_at.result ≡ length (listed_in (c.loop-i.i + 1) (notes)) = omega (arith, c.loop-i.invariant.2, c.times_at.ensures, one_more (notes) c.loop-i.i) in
+    let ends : c.loop-i.at + c.times_at.result ≡ length (listed_in (c.loop-i.i + 1) (notes)) =
+    omega (arith, c.loop-i.invariant.2, c.times_at.ensures, one_more (notes) c.loop-i.i) in
     let l = c.loop-at in
     let f = l.invariant.2 in
     let i = c.loop-i.i in

@@ -13,14 +13,16 @@ returns-then-end-text c =
 
 pub returns-in-Refused : goal.returns-in-Refused
 returns-in-Refused c =
-    let within : c.find-end.result < length c.args.text.now = omega (arith, c.find-end.ensures.1.1, c.if-end-text.false) in
+    let within : c.find-end.result < length c.args.text.now =
+    omega (arith, c.find-end.ensures.1.1, c.if-end-text.false) in
     line_refused c.args.form c.args.text.now c.args.c _ _ c.find-end.result c.requires.at_in_bounds.0
     c.find-end.ensures.0 (within) _ _
     (same_answer _ _ _ _ _ _ _ c.in-Refused.is c.read_line-read.ensures)
 
 pub returns-in-Read : goal.returns-in-Read
 returns-in-Read c =
-    let within : c.find-end.result < length c.args.text.now = omega (arith, c.find-end.ensures.1.1, c.if-end-text.false) in
+    let within : c.find-end.result < length c.args.text.now =
+    omega (arith, c.find-end.ensures.1.1, c.if-end-text.false) in
     line_read c.args.form c.args.text.now c.args.c _ _ c.find-end.result c.requires.at_in_bounds.0
     c.find-end.ensures.0
     (within)

@@ -72,11 +72,13 @@ returns-then-sizes-blocks c =
     (sym (c.memory_of.ensures.0 ∙ ap (λ (z : Sizes). z.blocks * z.words) (sized)))
     ∙ sym c.names_past.ensures in
     let holds : Consistent c.args.p (plan) = c.requires.1.1 in
-    let with_word : ℕ → ℕ → ℕ → ℕ = λ size d n. cond (writes_to size (block_of size d) (tabulate n (λ i. target_at (plan) (16 * last + i))))
+    let with_word : ℕ → ℕ → ℕ → ℕ =
+    λ size d n. cond (writes_to size (block_of size d) (tabulate n (λ i. target_at (plan) (16 * last + i))))
     c.args.p.written
     (c.args.p.written + 1) in
     let counted : let size = (sizes_in (plan)).words in
-    length (blocks_written size (update_at (plan) (last) ++ (the_move ∷ []))) ≡ c.blocks_with-blocks.result = let size = (sizes_in (plan)).words in
+    length (blocks_written size (update_at (plan) (last) ++ (the_move ∷ []))) ≡ c.blocks_with-blocks.result =
+    let size = (sizes_in (plan)).words in
     blocks_more (plan) (last) size c.args.p.written (the_move)
     (count_is c.args.p (plan) (last) (placed) (holds))
     ∙ sym
@@ -106,11 +108,13 @@ returns c =
     let past : some_from (memory) (named (the_move)) ≡ c.names_past.result = ap (λ n. some_from n (named (the_move)))
     (sym (c.memory_of.ensures.0 ∙ ap (λ (z : Sizes). z.blocks * z.words) (sized)))
     ∙ sym c.names_past.ensures in
-    let with_word : ℕ → ℕ → ℕ → ℕ = λ size d n. cond (writes_to size (block_of size d) (tabulate n (λ i. target_at (plan) (16 * last + i))))
+    let with_word : ℕ → ℕ → ℕ → ℕ =
+    λ size d n. cond (writes_to size (block_of size d) (tabulate n (λ i. target_at (plan) (16 * last + i))))
     c.args.p.written
     (c.args.p.written + 1) in
     let counted : let size = (sizes_in (plan)).words in
-    length (blocks_written size (update_at (plan) (last) ++ (the_move ∷ []))) ≡ c.blocks_with-blocks.result = let size = (sizes_in (plan)).words in
+    length (blocks_written size (update_at (plan) (last) ++ (the_move ∷ []))) ≡ c.blocks_with-blocks.result =
+    let size = (sizes_in (plan)).words in
     blocks_more (plan) (last) size c.args.p.written (the_move)
     (count_is c.args.p (plan) (last) (placed) (holds))
     ∙ sym

@@ -12,5 +12,6 @@ returns c =
       c.first_on-first.ensures,
       c.card-card.ensures,
       c.put_active.ensures,
-      places-in c.args.cells.now active_at 16 c.args.p c.args.up (omega (arith, c.requires)) (omega (arith, c.requires)),
+      places-in c.args.cells.now active_at 16 c.args.p c.args.up (omega (arith, c.requires))
+          (omega (arith, c.requires)),
     )

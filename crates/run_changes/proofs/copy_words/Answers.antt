@@ -17,10 +17,12 @@ loop-i-preserved c =
         length-set c.loop-i.store (c.args.to + c.loop-i.i) _ ∙ c.loop-i.invariant.1.0,
         rw (
           c.loop-i.invariant.1.1,
-          still c.args.store.now c.args.words c.args.from c.args.to c.loop-i.i (omega arith) (omega arith) (omega arith) c.requires.words_bound,
+          still c.args.store.now c.args.words c.args.from c.args.to c.loop-i.i (omega arith) (omega arith)
+              (omega arith) c.requires.words_bound,
           add-one,
           ← get_or-drop c.args.from c.args.store.now c.loop-i.i 0,
         )
-            (paste-suc c.args.store.now c.args.to part c.loop-i.i 0 (omega arith) (rw (length-drop c.args.from c.args.store.now) (omega arith))),
+            (paste-suc c.args.store.now c.args.to part c.loop-i.i 0 (omega arith)
+            (rw (length-drop c.args.from c.args.store.now) (omega arith))),
       ),
     )

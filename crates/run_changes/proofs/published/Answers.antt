@@ -11,7 +11,8 @@ loop-i-preserved c = (
   (
     c.loop-i.invariant.1.0,
     rw (c.loop-i.invariant.1.1, c.curr.ensures 0)
-        (one-more-of c.args.row (λ k. get_or (places c.args.cells.now (curr_at c.args.p) 16) (get_or c.args.addr k 0) 0) c.loop-i.i
+        (one-more-of c.args.row (λ k. get_or (places c.args.cells.now (curr_at c.args.p) 16) (get_or c.args.addr k 0)
+        0) c.loop-i.i
         (omega arith)),
   ),
 )

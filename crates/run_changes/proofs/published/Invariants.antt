@@ -10,7 +10,8 @@ abbrev pub invariant-loop-i : goal.invariant-loop-i
 invariant-loop-i l =
     (l.i ≤ l.n)
     × ((length l.initial.out ≡ 16)
-    × (l.out ≡ in_first_places (tabulate l.i (λ k. get_or (places l.cells (curr_at l.p) 16) (get_or l.addr k 0) 0)) l.initial.out))
+    × (l.out ≡ in_first_places (tabulate l.i (λ k. get_or (places l.cells (curr_at l.p) 16) (get_or l.addr k 0) 0))
+    l.initial.out))
 
 abbrev pub decreases-loop-i : goal.decreases-loop-i
 decreases-loop-i l =

@@ -13,12 +13,16 @@ use Rattle.run_changes.proofs.reclaim.Goals.{then-dirty-eq2, else-dirty-eq2}
 
 pub put_copy-requires : goal.put_copy-requires
 put_copy-requires c =
-    let marked : c.dirty.result ≡ get_or (places c.args.cells.now (dirty_at c.args.p) 16) (get_or c.args.addr c.loop-i.i 0) 0 = c.dirty.ensures 0 ∙ ap (λ k. get_or k (get_or c.args.addr c.loop-i.i 0) 0) (puts-marks c.args.p _ _ _ c.loop-i.invariant.1.1) in
+    let marked : c.dirty.result
+    ≡ get_or (places c.args.cells.now (dirty_at c.args.p) 16) (get_or c.args.addr c.loop-i.i 0) 0 =
+    c.dirty.ensures 0 ∙ ap (λ k. get_or k (get_or c.args.addr c.loop-i.i 0) 0)
+    (puts-marks c.args.p _ _ _ c.loop-i.invariant.1.1) in
     let place : c.loop-i.used < 8 = omega (
       arith,
       c.loop-i.invariant.1.0,
       c.requires.n_len_bound,
-      has-place (λ k. get_or c.args.addr k 0) (λ k. get_or c.args.old k 0) (places c.args.cells.now (dirty_at c.args.p) 16)
+      has-place (λ k. get_or c.args.addr k 0) (λ k. get_or c.args.old k 0)
+          (places c.args.cells.now (dirty_at c.args.p) 16)
           c.loop-i.i
           c.args.n
           c.loop-i-test.true (sym (marked) ∙ c.if-dirty-eq2.true),
@@ -27,12 +31,16 @@ put_copy-requires c =
 
 pub overflow_add-used : goal.overflow_add-used
 overflow_add-used c =
-    let marked : c.dirty.result ≡ get_or (places c.args.cells.now (dirty_at c.args.p) 16) (get_or c.args.addr c.loop-i.i 0) 0 = c.dirty.ensures 0 ∙ ap (λ k. get_or k (get_or c.args.addr c.loop-i.i 0) 0) (puts-marks c.args.p _ _ _ c.loop-i.invariant.1.1) in
+    let marked : c.dirty.result
+    ≡ get_or (places c.args.cells.now (dirty_at c.args.p) 16) (get_or c.args.addr c.loop-i.i 0) 0 =
+    c.dirty.ensures 0 ∙ ap (λ k. get_or k (get_or c.args.addr c.loop-i.i 0) 0)
+    (puts-marks c.args.p _ _ _ c.loop-i.invariant.1.1) in
     let place : c.loop-i.used < 8 = omega (
       arith,
       c.loop-i.invariant.1.0,
       c.requires.n_len_bound,
-      has-place (λ k. get_or c.args.addr k 0) (λ k. get_or c.args.old k 0) (places c.args.cells.now (dirty_at c.args.p) 16)
+      has-place (λ k. get_or c.args.addr k 0) (λ k. get_or c.args.old k 0)
+          (places c.args.cells.now (dirty_at c.args.p) 16)
           c.loop-i.i
           c.args.n
           c.loop-i-test.true (sym (marked) ∙ c.if-dirty-eq2.true),
@@ -41,7 +49,8 @@ overflow_add-used c =
 
 pub loop-i-preserved : goal.loop-i-preserved
 loop-i-preserved c =
-    let marked : c.dirty.result ≡ get_or (places c.args.cells.now (dirty_at c.args.p) 16) (get_or c.args.addr c.loop-i.i 0) 0
+    let marked : c.dirty.result
+    ≡ get_or (places c.args.cells.now (dirty_at c.args.p) 16) (get_or c.args.addr c.loop-i.i 0) 0
     = c.dirty.ensures 0
     ∙ ap (λ k. get_or k (get_or c.args.addr c.loop-i.i 0) 0) (puts-marks c.args.p _ _ _ c.loop-i.invariant.1.1) in
     let addr : ℕ → ℕ = λ k. get_or c.args.addr k 0 in
@@ -80,4 +89,5 @@ loop-i-preserved c =
 pub returns : goal.returns
 returns c =
     let all : c.loop-i.i ≡ c.args.n = omega arith in
-    puts-all c.args.p c.args.n (λ k. get_or c.args.addr k 0) (λ k. get_or c.args.old k 0) _ _ (rw all at c.loop-i.invariant.1.1)
+    puts-all c.args.p c.args.n (λ k. get_or c.args.addr k 0) (λ k. get_or c.args.old k 0) _ _
+    (rw all at c.loop-i.invariant.1.1)

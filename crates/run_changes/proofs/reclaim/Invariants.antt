@@ -13,7 +13,8 @@ sofar addr old t p i = replaced (λ k. get_or addr k 0) (λ k. get_or old k 0) (
 
 abbrev pub invariant-loop-i : goal.invariant-loop-i
 invariant-loop-i l =
-    (l.i ≤ l.n) × ((l.used ≡ length (sofar l.addr l.old l.initial.cells l.p l.i)) × Puts l.p (sofar l.addr l.old l.initial.cells l.p l.i) l.initial.cells l.cells)
+    (l.i ≤ l.n) × ((l.used ≡ length (sofar l.addr l.old l.initial.cells l.p l.i))
+    × Puts l.p (sofar l.addr l.old l.initial.cells l.p l.i) l.initial.cells l.cells)
 
 abbrev pub decreases-loop-i : goal.decreases-loop-i
 decreases-loop-i l =

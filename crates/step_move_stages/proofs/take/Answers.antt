@@ -10,17 +10,23 @@ use Rattle.step_move_stages.proofs.take.Goals as goal
 
 pub overflow_mul-at : goal.overflow_mul-at
 overflow_mul-at c =
-    let in-store : c.curr-number.result * c.words-words.result + c.word_of-word.result % c.words-words.result < 2304 = word-in-store c.requires.plan_fits.0 c.words-words.ensures c.word_of-word.result c.requires.plan_fits.1.0 (c.curr-number.ensures 0) in
+    let in-store : c.curr-number.result * c.words-words.result + c.word_of-word.result % c.words-words.result < 2304 =
+    word-in-store c.requires.plan_fits.0 c.words-words.ensures c.word_of-word.result c.requires.plan_fits.1.0
+    (c.curr-number.ensures 0) in
     record { fits = omega (arith, in-store) }
 
 pub overflow_add-at : goal.overflow_add-at
 overflow_add-at c =
-    let in-store : c.curr-number.result * c.words-words.result + c.word_of-word.result % c.words-words.result < 2304 = word-in-store c.requires.plan_fits.0 c.words-words.ensures c.word_of-word.result c.requires.plan_fits.1.0 (c.curr-number.ensures 0) in
+    let in-store : c.curr-number.result * c.words-words.result + c.word_of-word.result % c.words-words.result < 2304 =
+    word-in-store c.requires.plan_fits.0 c.words-words.ensures c.word_of-word.result c.requires.plan_fits.1.0
+    (c.curr-number.ensures 0) in
     record { fits = omega (arith, in-store) }
 
 pub bounds-store-at : goal.bounds-store-at
 bounds-store-at c =
-    let in-store : c.curr-number.result * c.words-words.result + c.word_of-word.result % c.words-words.result < 2304 = word-in-store c.requires.plan_fits.0 c.words-words.ensures c.word_of-word.result c.requires.plan_fits.1.0 (c.curr-number.ensures 0) in
+    let in-store : c.curr-number.result * c.words-words.result + c.word_of-word.result % c.words-words.result < 2304 =
+    word-in-store c.requires.plan_fits.0 c.words-words.ensures c.word_of-word.result c.requires.plan_fits.1.0
+    (c.curr-number.ensures 0) in
     omega (arith, in-store, c.requires.store_len)
 
 pub returns-clause-does : goal.returns-clause-does

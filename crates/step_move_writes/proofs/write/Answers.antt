@@ -37,5 +37,8 @@ returns-clause-stays_inside c =
       the_word = c.word_of-word.ensures;
       the-words = c.words-words.ensures;
     } in
-    let o = own_of c.args.cells.now c.args.p in rw c.storing.ensures
-    ((rw (c.curr-number.ensures 0) (c.requires.1.0.curr _), place-below c.requires.0 c.words-words.ensures _), λ x p. tt)
+    let o = own_of c.args.cells.now c.args.p in rw c.storing.ensures (
+      (rw (c.curr-number.ensures 0) (c.requires.1.0.curr _), place-below c.requires.0 c.words-words.ensures _),
+      λ x p.
+          tt,
+    )

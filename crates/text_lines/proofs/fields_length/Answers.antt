@@ -13,7 +13,8 @@ pub overflow_add-length : goal.overflow_add-length
 overflow_add-length c =
     let step : (c.width.result ≤ 10)
     × (length (fields_behind (map decimal (drop (c.loop-i.i - 1) c.args.numbers.now)))
-    ≡ 1 + c.width.result + length (fields_behind (map decimal (drop c.loop-i.i c.args.numbers.now)))) = let next : suc (c.loop-i.i - 1) ≡ c.loop-i.i = omega arith in
+    ≡ 1 + c.width.result + length (fields_behind (map decimal (drop c.loop-i.i c.args.numbers.now)))) =
+    let next : suc (c.loop-i.i - 1) ≡ c.loop-i.i = omega arith in
     let long = longer c.args.numbers.now (c.loop-i.i - 1) (omega arith) in
     let w : c.width.result ≡ length (decimal (get_or c.args.numbers.now (c.loop-i.i - 1) 0)) = c.width.ensures in
     (omega (arith, w, long.1), omega (arith, w, rw next at long.0)) in
@@ -23,7 +24,8 @@ pub overflow_add-length-in-loop-i : goal.overflow_add-length-in-loop-i
 overflow_add-length-in-loop-i c =
     let step : (c.width.result ≤ 10)
     × (length (fields_behind (map decimal (drop (c.loop-i.i - 1) c.args.numbers.now)))
-    ≡ 1 + c.width.result + length (fields_behind (map decimal (drop c.loop-i.i c.args.numbers.now)))) = let next : suc (c.loop-i.i - 1) ≡ c.loop-i.i = omega arith in
+    ≡ 1 + c.width.result + length (fields_behind (map decimal (drop c.loop-i.i c.args.numbers.now)))) =
+    let next : suc (c.loop-i.i - 1) ≡ c.loop-i.i = omega arith in
     let long = longer c.args.numbers.now (c.loop-i.i - 1) (omega arith) in
     let w : c.width.result ≡ length (decimal (get_or c.args.numbers.now (c.loop-i.i - 1) 0)) = c.width.ensures in
     (omega (arith, w, long.1), omega (arith, w, rw next at long.0)) in
@@ -33,7 +35,8 @@ pub loop-i-preserved : goal.loop-i-preserved
 loop-i-preserved c =
     let step : (c.width.result ≤ 10)
     × (length (fields_behind (map decimal (drop (c.loop-i.i - 1) c.args.numbers.now)))
-    ≡ 1 + c.width.result + length (fields_behind (map decimal (drop c.loop-i.i c.args.numbers.now)))) = let next : suc (c.loop-i.i - 1) ≡ c.loop-i.i = omega arith in
+    ≡ 1 + c.width.result + length (fields_behind (map decimal (drop c.loop-i.i c.args.numbers.now)))) =
+    let next : suc (c.loop-i.i - 1) ≡ c.loop-i.i = omega arith in
     let long = longer c.args.numbers.now (c.loop-i.i - 1) (omega arith) in
     let w : c.width.result ≡ length (decimal (get_or c.args.numbers.now (c.loop-i.i - 1) 0)) = c.width.ensures in
     (omega (arith, w, long.1), omega (arith, w, rw next at long.0)) in

@@ -11,7 +11,8 @@ use Rattle.text_lines.proofs.fill_line.Goals as goal
 pub loop-i-preserved : goal.loop-i-preserved
 loop-i-preserved c =
     let parts : (length c.fill_fields.new.part ≡ length c.args.first.now + length (fields_of c.args.numbers.now))
-    × (drop (length c.args.first.now) c.fill_fields.new.part ≡ fields_of c.args.numbers.now) = let p = line-parts c.args.first.now c.args.numbers.now c.args.part.now c.fill_fields.new.part
+    × (drop (length c.args.first.now) c.fill_fields.new.part ≡ fields_of c.args.numbers.now) = let p =
+    line-parts c.args.first.now c.args.numbers.now c.args.part.now c.fill_fields.new.part
     c.fill_fields.result c.requires c.fill_fields.ensures.numbers_value c.fill_fields.ensures.part_after in
     (p.0 ∙ c.requires ∙ length-append c.args.first.now (fields_of c.args.numbers.now), p.1) in
     let next : suc c.loop-i.i ≡ c.loop-i.i + 1 = omega arith in (

@@ -14,7 +14,8 @@ use Rattle.run_judge.specs.Rulings.{halt_of}
 use Rattle.run_loop.specs.RunReached.{place_noted, Ran}
 use Rattle.report_ending.proofs.WrittenOut.{same_outcome, refused-out}
 use Rattle.whole_records_start.specs.BeforeAndAfter.{Accepts, Closing}
-use Rattle.whole_records_end.proofs.ScheduleOutcomes.{refused-text, too_many, misplaced, to-report, low-place, report_is}
+use Rattle.whole_records_end.proofs.ScheduleOutcomes.{refused-text, too_many, misplaced, to-report, low-place}
+use Rattle.whole_records_end.proofs.ScheduleOutcomes.{report_is}
 use Rattle.whole_records_end.proofs.report_of.Goals as goal
 
 -- Few records have run beside an accepted text: they are few, and all have run.
@@ -41,7 +42,8 @@ end-so x n h accepted count end is halted done counted =
     ∙ ap (end_of (halt_of (book_of x).halt) ((book_of x).entries + 1) ((book_of x).entries + 1)) (sym counted)
 
 pub returns-in-Refused : goal.returns-in-Refused
-returns-in-Refused c text es addr old new k = refused-out _ _ (refused-text text es _ _ (k.verdict_is ∙ c.in-Refused.is))
+returns-in-Refused c text es addr old new k =
+    refused-out _ _ (refused-text text es _ _ (k.verdict_is ∙ c.in-Refused.is))
 
 pub returns-then-count-gt-MOST : goal.returns-then-count-gt-MOST
 returns-then-count-gt-MOST c text es addr old new k =
@@ -58,7 +60,8 @@ returns-then-other-gt0 c text es addr old new k =
 pub finish-requires-clause-reportable : goal.finish-requires-clause-reportable
 finish-requires-clause-reportable c =
     let k = c.requires.5 in
-    let x = lent c.args.cells.now c.args.stat.now c.args.store.now c.requires.2 c.requires.3 c.requires.4 c.args.commits.now in
+    let x = lent c.args.cells.now c.args.stat.now c.args.store.now c.requires.2 c.requires.3 c.requires.4
+    c.args.commits.now in
     let r = ran k _ c.in_default.is c.if-count-gt-MOST.false in
     to-report r.0 r.1 (few k c.if-count-gt-MOST.false) c.end_of-end.result
     (end-so x _ _ _ _ _ c.end_of-end.ensures c.halt.ensures c.entries-accepted.ensures k.counted)
@@ -66,7 +69,8 @@ finish-requires-clause-reportable c =
 pub finish-requires-clause-end_bound : goal.finish-requires-clause-end_bound
 finish-requires-clause-end_bound c =
     let k = c.requires.5 in
-    let x = lent c.args.cells.now c.args.stat.now c.args.store.now c.requires.2 c.requires.3 c.requires.4 c.args.commits.now in
+    let x = lent c.args.cells.now c.args.stat.now c.args.store.now c.requires.2 c.requires.3 c.requires.4
+    c.args.commits.now in
     let r = ran k _ c.in_default.is c.if-count-gt-MOST.false in
     low-place r.0 r.1 (few k c.if-count-gt-MOST.false) c.end_of-end.result
     (end-so x _ _ _ _ _ c.end_of-end.ensures c.halt.ensures c.entries-accepted.ensures k.counted)

@@ -6,7 +6,8 @@ use Rattle.whole_written_end.proofs.TextParts.{text-parts, text-long}
 use Rattle.whole_written_end.proofs.put_text.Goals as goal
 
 pub put_plan_lines-updates-requires-clause-plan_in_bounds : goal.put_plan_lines-updates-requires-clause-plan_in_bounds
-put_plan_lines-updates-requires-clause-plan_in_bounds c = omega (arith, c.requires.notes_in_bounds, text-long c.args.plan.now c.args.n c.args.notes.now)
+put_plan_lines-updates-requires-clause-plan_in_bounds c =
+    omega (arith, c.requires.notes_in_bounds, text-long c.args.plan.now c.args.n c.args.notes.now)
 
 pub put_updates-entries-requires-clause-plan_in_bounds : goal.put_updates-entries-requires-clause-plan_in_bounds
 put_updates-entries-requires-clause-plan_in_bounds c =

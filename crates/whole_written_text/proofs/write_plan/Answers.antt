@@ -65,7 +65,8 @@ returns c text reads =
     let end-so : let r = c.run_notes-ran.result in
     c.end_of-end.result
     ≡ end_of (halt_of r.halt) (r.entries + 1)
-    (line_in (listed_in c.args.parsed.notes c.args.notes.now) r.entries) c.args.lines = let r = c.run_notes-ran.result in
+    (line_in (listed_in c.args.parsed.notes c.args.notes.now) r.entries) c.args.lines = let r =
+    c.run_notes-ran.result in
     c.end_of-end.ensures
     ∙ ap (λ n. end_of (halt_of r.halt) (r.entries + 1) n c.args.lines) c.line_in-line.ensures in
     same_outcome
