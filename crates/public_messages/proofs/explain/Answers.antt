@@ -9,6 +9,6 @@ use Rattle.public_messages.proofs.explain.Goals as goal
 pub returns-clause-buffer_after : goal.returns-clause-buffer_after
 returns-clause-buffer_after c =
     (let some : 0 < c.args.number = omega (arith, c.if-number-eq0.false) in
-    let room : 161 ≤ length c.args.buffer.now = omega (arith, c.put_refusal-arg-1.given.0.1) in
+    let room : 161 ≤ length c.args.buffer.now = omega arith in
     refused-said c.args.number c.args.line c.args.entry some (omega (arith, c.if-number-ge-NUMBERS.false)) room
     c.put_refusal.ensures).1.1

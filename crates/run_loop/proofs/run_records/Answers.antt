@@ -3,85 +3,38 @@
 use Prim.Native.Nat.{◌<◌}
 use mathlib.Core.Path.{◌≡◌}
 use native.Mathlib.Omega.{arith}
-use lib.ListN.{length}
-use Rattle.step_cells.specs.Tables.{lent}
 use Rattle.run_loop.proofs.OneAfterAnother as law
 use Rattle.run_loop.proofs.run_records.Goals as goal
+use Rattle.run_loop.proofs.run_records.Goals.{After-changed-job}
 
 pub loop-i-init : goal.loop-i-init
 loop-i-init c = record { within = omega arith; sofar = λ s. rw c.idle-first.ensures s.reached }
 
+-- The job that the record changes is one of sixteen.
+below : (c : After-changed-job) → c.changed-job.result < 16
+below c =
+    law.few c.args.plan.now c.args.records.now _ c.loop-i.i c.loop-i.works _ (omega (arith, c.requires.0))
+    c.loop-i.invariant.sofar _ c.judge_record-ruling.ensures _ c.changed-job.ensures (c.requires.1 (omega arith))
+
 pub bounds-works-job : goal.bounds-works-job
-bounds-works-job c =
-    let t = c.args.plan.now in
-    let ys = c.args.records.now in
-    let x₀ =
-    lent c.args.cells.now c.args.stat.now c.args.store.now c.args.addr.now c.args.old.now c.args.new.now
-    c.args.commits.now in
-    let x =
-    lent c.loop-i.cells c.loop-i.stat c.loop-i.store c.loop-i.addr c.loop-i.old c.loop-i.new c.loop-i.commits in
-    let inside : c.loop-i.i < length ys = omega (arith, c.requires.0) in
-    let far = c.loop-i.invariant.sofar in
-    let r = c.judge_record-ruling in
-    let k = c.changed-job in
-    let started = c.requires.1 (omega arith) in
-    law.few t ys x₀ c.loop-i.i c.loop-i.works x inside far r.result r.ensures k.result k.ensures started
+bounds-works-job c = below (goal.at.bounds-works-job c).After-changed-job
 
 pub offset_bounds-works-job : goal.offset_bounds-works-job
-offset_bounds-works-job c =
-    let t = c.args.plan.now in
-    let ys = c.args.records.now in
-    let x₀ =
-    lent c.args.cells.now c.args.stat.now c.args.store.now c.args.addr.now c.args.old.now c.args.new.now
-    c.args.commits.now in
-    let x =
-    lent c.loop-i.cells c.loop-i.stat c.loop-i.store c.loop-i.addr c.loop-i.old c.loop-i.new c.loop-i.commits in
-    let inside : c.loop-i.i < length ys = omega (arith, c.requires.0) in
-    let far = c.loop-i.invariant.sofar in
-    let r = c.judge_record-ruling in
-    let k = c.changed-job in
-    let started = c.requires.1 (omega arith) in
-    let below : k.result < 16 =
-    law.few t ys x₀ c.loop-i.i c.loop-i.works x inside far r.result r.ensures k.result k.ensures started in
-    record { fits = omega (arith, below) }
+offset_bounds-works-job c = record { fits = omega (arith, below (goal.at.offset_bounds-works-job c).After-changed-job) }
 
 pub act_where_kept-requires : goal.act_where_kept-requires
 act_where_kept-requires c =
-    let t = c.args.plan.now in
-    let ys = c.args.records.now in
-    let x₀ =
-    lent c.args.cells.now c.args.stat.now c.args.store.now c.args.addr.now c.args.old.now c.args.new.now
-    c.args.commits.now in
-    let x =
-    lent c.loop-i.cells c.loop-i.stat c.loop-i.store c.loop-i.addr c.loop-i.old c.loop-i.new c.loop-i.commits in
-    let inside : c.loop-i.i < length ys = omega (arith, c.requires.0) in
-    let far = c.loop-i.invariant.sofar in
-    let r = c.judge_record-ruling in
-    let k = c.changed-job in
-    let started = c.requires.1 (omega arith) in
-    law.asks t ys x₀ c.loop-i.i c.loop-i.works x inside far r.result r.ensures k.result k.ensures started
+    law.asks c.args.plan.now c.args.records.now _ c.loop-i.i c.loop-i.works _ (omega (arith, c.requires.0))
+    c.loop-i.invariant.sofar _ c.judge_record-ruling.ensures _ c.changed-job.ensures (c.requires.1 (omega arith))
 
 pub loop-i-preserved : goal.loop-i-preserved
 loop-i-preserved c =
-    let t = c.args.plan.now in
-    let ys = c.args.records.now in
-    let x₀ =
-    lent c.args.cells.now c.args.stat.now c.args.store.now c.args.addr.now c.args.old.now c.args.new.now
-    c.args.commits.now in
-    let x =
-    lent c.loop-i.cells c.loop-i.stat c.loop-i.store c.loop-i.addr c.loop-i.old c.loop-i.new c.loop-i.commits in
-    let inside : c.loop-i.i < length ys = omega (arith, c.requires.0) in
-    let far = c.loop-i.invariant.sofar in
-    let r = c.judge_record-ruling in
-    let k = c.changed-job in
-    let started = c.requires.1 (omega arith) in
     record {
       within = omega arith;
       sofar =
-          law.onward t ys x₀ c.loop-i.i c.loop-i.works x inside far r.result r.ensures k.result k.ensures
-          _
-          _
-          c.act_where_kept.ensures;
+          law.onward c.args.plan.now c.args.records.now _ c.loop-i.i c.loop-i.works _ (omega (arith, c.requires.0))
+          c.loop-i.invariant.sofar _ c.judge_record-ruling.ensures _ c.changed-job.ensures
+          _ _ c.act_where_kept.ensures;
     }
 
 pub returns : goal.returns

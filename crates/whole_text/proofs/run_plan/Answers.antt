@@ -1,7 +1,7 @@
 -- `run_plan` meets its contract. Assumes nothing.
 use Prim.Native.Nat.{ℕ, ◌+◌}
 use mathlib.Core.Path.{◌≡◌, refl, ◌∙◌, ap}
-use mathlib.Core.List.{List}
+use mathlib.Core.List.{List, [], ◌∷◌}
 use lib.IntN.{ℤ, pos}
 use lib.ListN.{length-replicate}
 use Rattle.spec_format.specs.Plan.{Listed}
@@ -15,6 +15,10 @@ use Rattle.report_ending.proofs.WrittenOut.{same_outcome}
 use Rattle.whole_text.proofs.AcceptedText.{sound-plan, few_notes, few-listed, few_entries, the-start, to-report}
 use Rattle.whole_text.proofs.AcceptedText.{low-line, the-run}
 use Rattle.whole_text.proofs.run_plan.Goals as goal
+
+-- A row of the commits before any.
+abbrev none : List ℕ
+none = 0 ∷ 0 ∷ 0 ∷ []
 
 -- The end of the run, by what the book says.
 end-so :
@@ -43,7 +47,7 @@ pub run_list-requires : goal.run_list-requires
 run_list-requires c = (
   few_entries c.requires.0 _ _ _ _ c.requires.1,
   the-start c.requires.0 _ _ _ _ c.requires.1 _ _ _ _ _ c.«open».ensures
-      (length-replicate {A = List ℕ} 4000 _)
+      (length-replicate 4000 none)
       c.records_of.ensures,
 )
 
@@ -52,8 +56,8 @@ finish-requires-clause-reportable c =
     let z = c.run_list.new in
     let x = lent z.cells z.stat z.store z.addr z.old z.new z.commits in
     let ran = c.run_list.ensures
-        (the-start c.requires.0 _ _ _ _ c.requires.1 _ _ _ _ _ c.«open».ensures
-        (length-replicate {A = List ℕ} 4000 _) c.records_of.ensures) in
+    (the-start c.requires.0 _ _ _ _ c.requires.1 _ _ _ _ _ c.«open».ensures
+    (length-replicate 4000 none) c.records_of.ensures) in
     to-report c.requires.0 _ _ _ _ c.requires.1 x c.records_of.result c.records_of.ensures ran c.end_of-end.result
     (end-so x _ _ _ _ _ _ c.end_of-end.ensures c.halt.ensures c.line_in-line.ensures c.entries-accepted.ensures)
 
@@ -62,8 +66,8 @@ finish-requires-clause-end_bound c =
     let z = c.run_list.new in
     let x = lent z.cells z.stat z.store z.addr z.old z.new z.commits in
     let ran = c.run_list.ensures
-        (the-start c.requires.0 _ _ _ _ c.requires.1 _ _ _ _ _ c.«open».ensures
-        (length-replicate {A = List ℕ} 4000 _) c.records_of.ensures) in
+    (the-start c.requires.0 _ _ _ _ c.requires.1 _ _ _ _ _ c.«open».ensures
+    (length-replicate 4000 none) c.records_of.ensures) in
     low-line c.requires.0 _ _ _ _ c.requires.1 x c.records_of.result c.records_of.ensures ran c.end_of-end.result
     (end-so x _ _ _ _ _ _ c.end_of-end.ensures c.halt.ensures c.line_in-line.ensures c.entries-accepted.ensures)
 
@@ -72,8 +76,8 @@ returns c text reading =
     let z = c.run_list.new in
     let x = lent z.cells z.stat z.store z.addr z.old z.new z.commits in
     let ran = c.run_list.ensures
-        (the-start text _ _ _ _ reading _ _ _ _ _ c.«open».ensures (length-replicate {A = List ℕ} 4000 _)
-        c.records_of.ensures) in
+    (the-start text _ _ _ _ reading _ _ _ _ _ c.«open».ensures (length-replicate 4000 none)
+    c.records_of.ensures) in
     same_outcome
     (the-run text _ _ _ _ reading x c.records_of.result c.records_of.ensures ran c.end_of-end.result
     (end-so x _ _ _ _ _ _ c.end_of-end.ensures c.halt.ensures c.line_in-line.ensures c.entries-accepted.ensures))
