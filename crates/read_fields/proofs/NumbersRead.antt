@@ -2,7 +2,7 @@
 use Prim.Native.Nat.{ℕ, suc, ◌+◌, ◌-◌, ◌≤◌, ◌<◌}
 use mathlib.Core.Path.{◌≡◌, refl}
 use mathlib.Core.List.{List, [], ◌∷◌, ◌++◌, append_assoc, append-nil}
-use mathlib.Core.Option.{Option, none, some}
+use Rattle.std.specs.Prelude.{Option, Some, None}
 use native.Mathlib.Omega.{arith}
 use native.Mathlib.Numerals.{add-one}
 use borrow.Author.Tests.{lt-ltb, ltb-true, ltb-false}
@@ -19,19 +19,19 @@ use Rattle.read_fields.specs.declared.Field.{Field}
 
 -- Numbers read in front of what the rest gives.
 abbrev pub joined : List ℕ → Option (List ℕ) → Option (List ℕ)
-joined ns none = none
-joined ns (some ms) = some (ns ++ ms)
+joined ns None = None
+joined ns (Some ms) = Some (ns ++ ms)
 
 -- One number more is read.
 joined-next : (ns : List ℕ) (n : ℕ) (o : Option (List ℕ))
     → joined ns (and_then (Number.Value n) o) ≡ joined (ns ++ (n ∷ [])) o
-joined-next ns n none = refl
-joined-next ns n (some ms) = rw append_assoc
+joined-next ns n None = refl
+joined-next ns n (Some ms) = rw append_assoc
 
 -- No number read changes nothing.
 pub joined-none : (o : Option (List ℕ)) → joined [] o ≡ o
-joined-none none = refl
-joined-none (some ms) = refl
+joined-none None = refl
+joined-none (Some ms) = refl
 
 -- The field that starts at a place.
 abbrev part_at : List ℕ → ℕ → List ℕ
@@ -68,7 +68,7 @@ read-value line at n next k e =
     ))
 
 -- No number is read: there are no numbers to be had.
-pub read-bad : (line : List ℕ) (at k : ℕ) → field_at line at ≡ Field.Bad → numbers (suc k) (fields_at line at) ≡ none
+pub read-bad : (line : List ℕ) (at k : ℕ) → field_at line at ≡ Field.Bad → numbers (suc k) (fields_at line at) ≡ None
 unfolding field_at
 read-bad line at k e =
     by-test (ltb (length line) at)
@@ -86,10 +86,10 @@ read-on line out at i n next k h e =
 
 -- All are read: the line ends there, and the numbers are those kept.
 pub read_all : (line out : List ℕ) (at i : ℕ) → i ≡ length out → at ≡ length line + 1
-    → joined (take i out) (numbers 0 (fields_at line at)) ≡ some out
+    → joined (take i out) (numbers 0 (fields_at line at)) ≡ Some out
 read_all line out at i h e =
     rw (fields-past line at (omega arith), h, take-length, append-nil)
 
 -- A field is left over: there are no numbers to be had.
-pub read-over : (line ns : List ℕ) (at : ℕ) → at ≤ length line → joined ns (numbers 0 (fields_at line at)) ≡ none
+pub read-over : (line ns : List ℕ) (at : ℕ) → at ≤ length line → joined ns (numbers 0 (fields_at line at)) ≡ None
 read-over line ns at h = rw (fields-next line at h)

@@ -1,7 +1,7 @@
 -- Lines and fields by their places in a text: the form in which the program reads them, one pass from left to right.
 -- proofs/LinePlaces.antt ties these to the definitions of Lines. Assumes nothing.
 use Rattle.std.specs.Prelude.{ℕ, suc, ◌+◌, ◌*◌, ◌-◌, cond, List, [], ◌∷◌, ltb, eqb, length, take, drop}
-use Rattle.std.proofs.Math.Option.{Option, none, some}
+use Rattle.std.specs.Prelude.{Option, Some, None}
 use Rattle.spec_text.specs.Numbers.{number, largest}
 use Rattle.spec_text.specs.Lines.{split}
 use Rattle.spec_text.specs.declared.Number.{Number}
@@ -34,8 +34,8 @@ field_at line at =
 
 -- What a reading of numbers into an array says: the array's numbers, or none.
 abbrev pub read_into : Numbers → List ℕ → Option (List ℕ)
-read_into Numbers.Read ns = some ns
-read_into Numbers.Bad ns = none
+read_into Numbers.Read ns = Some ns
+read_into Numbers.Bad ns = None
 
 -- What the digits s are worth after digits that are worth n, judged from left to right.
 abbrev pub scanned : ℕ → List ℕ → Number

@@ -4,7 +4,7 @@ use Prim.Native.Nat.{ℕ, ◌+◌, ◌<◌}
 use mathlib.Core.Path.{◌≡◌, refl, sym, ◌∙◌, ap, subst}
 use mathlib.Core.Bool.{Bool, true, false, not, ◌&&◌, false≢true}
 use mathlib.Core.List.{List}
-use mathlib.Core.Option.{Option, none, some}
+use Rattle.std.specs.Prelude.{Option, Some, None}
 use lib.Dec.{ltb, eqb}
 use lib.ListN.{length, take}
 use borrow.Author.Tests.{ltb-true, eqb-true}
@@ -59,8 +59,8 @@ module _ (k met : Kind) (s : ℕ) (fs : List (List ℕ)) (p : Progress) (x x' : 
 
 -- What the line `update n` says is what the definitions say.
 pub says-update : (o : Option (List ℕ)) → update_directive (as_three o) ≡ directive_of Kind.Update o
-says-update none = refl
-says-update (some ns) = refl
+says-update None = refl
+says-update (Some ns) = refl
 
 -- The kind of a line that holds a move.
 abbrev move_line : MoveKind → Kind
@@ -70,17 +70,17 @@ move_line MoveKind.Add = Kind.Add
 
 -- What a line that holds a move says is what the definitions say.
 pub says-move : (k : MoveKind) (o : Option (List ℕ)) → move_directive k (as_three o) ≡ directive_of (move_line k) o
-says-move MoveKind.Copy none = refl
-says-move MoveKind.Copy (some ns) = refl
-says-move MoveKind.Set none = refl
-says-move MoveKind.Set (some ns) = refl
-says-move MoveKind.Add none = refl
-says-move MoveKind.Add (some ns) = refl
+says-move MoveKind.Copy None = refl
+says-move MoveKind.Copy (Some ns) = refl
+says-move MoveKind.Set None = refl
+says-move MoveKind.Set (Some ns) = refl
+says-move MoveKind.Add None = refl
+says-move MoveKind.Add (Some ns) = refl
 
 -- What the line `call` says is what the definitions say.
 pub says-call : (o : Option (List ℕ)) → entry_directive EntryKind.Call (as_three o) ≡ directive_of Kind.Call o
-says-call none = refl
-says-call (some ns) = refl
+says-call None = refl
+says-call (Some ns) = refl
 
 -- Of an unknown kind nothing is promised here.
 pub at-unknown : (p : Progress) (x x' : ReadTables) (i : Option Directive) (f : Fault) (n : ℕ)

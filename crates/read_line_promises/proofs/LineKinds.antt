@@ -5,7 +5,7 @@ use mathlib.Core.Path.{◌≡◌, refl, sym, ◌∙◌, ap, subst}
 use mathlib.Core.Logic.{inl, inr}
 use mathlib.Core.Bool.{true, false, cond, ◌||◌}
 use mathlib.Core.List.{List, [], ◌∷◌, ◌++◌, append-nil}
-use mathlib.Core.Option.{Option, none, some}
+use Rattle.std.specs.Prelude.{Option, Some, None}
 use native.Mathlib.Nat.{zero-mul, mul-le-mul, add-mul, one-mul}
 use native.Mathlib.Numerals.{add-one}
 use native.Mathlib.Omega.{arith}
@@ -62,7 +62,7 @@ silent p q e i same nothing =
 
 module _ (k : Kind) (r : Numbers) (ws : List ℕ) (ns : Option (List ℕ)) (e : read_into r ws ≡ ns) where
   -- The numbers of a line could not be read.
-  pub bad-item : r ≡ Numbers.Bad → directive_of k ns ≡ none
+  pub bad-item : r ≡ Numbers.Bad → directive_of k ns ≡ None
   bad-item b = rw (← e, b)
 
   -- The numbers of a line were read.
@@ -71,7 +71,7 @@ module _ (k : Kind) (r : Numbers) (ws : List ℕ) (ns : Option (List ℕ)) (e : 
 
 module _ (k : Kind) (p : Progress) (x x' : ReadTables) where
   -- A line whose fields cannot be read.
-  pub malformed : (i : Option Directive) → i ≡ none
+  pub malformed : (i : Option Directive) → i ≡ None
       → LineStep k p x x' i (LineRead.Refused Fault.Malformed (p.lines + 1))
   malformed i e =
       record {
@@ -81,7 +81,7 @@ module _ (k : Kind) (p : Progress) (x x' : ReadTables) where
       }
 
 -- A plan line with a size out of its range.
-pub bad-size : (p : Progress) (x x' : ReadTables) (i : Option Directive) (z : Sizes) → i ≡ some (plan z)
+pub bad-size : (p : Progress) (x x' : ReadTables) (i : Option Directive) (z : Sizes) → i ≡ Some (plan z)
     → in_range z ≡ false
     → LineStep Kind.Plan p x x' i (LineRead.Refused Fault.BadSize (p.lines + 1))
 bad-size p x x' i z e bad =
@@ -101,7 +101,7 @@ unfolding blocks_written
 none_written s n f e = rw e
 
 -- A plan line: its sizes are put, and nothing else has been read.
-pub plan-read : (p : Progress) (t u e : List ℕ) (i : Option Directive) (z : Sizes) → i ≡ some (plan z)
+pub plan-read : (p : Progress) (t u e : List ℕ) (i : Option Directive) (z : Sizes) → i ≡ Some (plan z)
     → in_range z ≡ true → p.lines ≡ 0 → Consistent p t
     → Put 0 (z.cards ∷ z.jobs ∷ z.blocks ∷ z.words ∷ z.copies ∷ []) t u
     → LineStep Kind.Plan p (tables_read t e) (tables_read u e) i
@@ -184,10 +184,10 @@ plan-read p t u e i z says-it good start h put =
         }
 
 -- A job out of its range, or with the card and priority of an earlier one.
-pub bad-job : (p : Progress) (x x' : ReadTables) (i : Option Directive) (j : Job) (f : Fault) → i ≡ some (job j)
-    → cond (leb (sizes_in x.plan).cards j.card || ltb 255 j.priority) (some Fault.BadJob)
-    (cond (taken j (tabulate p.jobs (job_at x.plan))) (some Fault.SameJob) none)
-    ≡ some f
+pub bad-job : (p : Progress) (x x' : ReadTables) (i : Option Directive) (j : Job) (f : Fault) → i ≡ Some (job j)
+    → cond (leb (sizes_in x.plan).cards j.card || ltb 255 j.priority) (Some Fault.BadJob)
+    (cond (taken j (tabulate p.jobs (job_at x.plan))) (Some Fault.SameJob) None)
+    ≡ Some f
     → LineStep Kind.Job p x x' i (LineRead.Refused f (p.lines + 1))
 bad-job p x x' i j f e bad =
     record {
@@ -197,10 +197,10 @@ bad-job p x x' i j f e bad =
     }
 
 -- A job is put behind the earlier ones.
-pub job_read : (p : Progress) (t s u e : List ℕ) (i : Option Directive) (j : Job) → i ≡ some (job j)
-    → cond (leb (sizes_in t).cards j.card || ltb 255 j.priority) (some Fault.BadJob)
-    (cond (taken j (tabulate p.jobs (job_at t))) (some Fault.SameJob) none)
-    ≡ none
+pub job_read : (p : Progress) (t s u e : List ℕ) (i : Option Directive) (j : Job) → i ≡ Some (job j)
+    → cond (leb (sizes_in t).cards j.card || ltb 255 j.priority) (Some Fault.BadJob)
+    (cond (taken j (tabulate p.jobs (job_at t))) (Some Fault.SameJob) None)
+    ≡ None
     → p.jobs < (sizes_in t).jobs → p.lines < 65536 → Consistent p t
     → Put (cards_at + p.jobs) (j.card ∷ []) t s → Put (priorities_at + p.jobs) (j.priority ∷ []) s u
     → LineStep Kind.Job p (tables_read t e) (tables_read u e) i
@@ -263,7 +263,7 @@ job_read p t s u e i j says-it good more room h put put' =
     updates = updates-kept h count counts moves
 
 -- The words of a block are put behind those of the earlier ones.
-pub block_read : (p : Progress) (t u e ws : List ℕ) (i : Option Directive) → i ≡ some (block ws)
+pub block_read : (p : Progress) (t u e ws : List ℕ) (i : Option Directive) → i ≡ Some (block ws)
     → length ws ≡ (sizes_in t).words → p.blocks < (sizes_in t).blocks → p.lines < 65536 → Consistent p t
     → Put (words_at + p.blocks * (sizes_in t).words) ws t u
     → LineStep Kind.Block p (tables_read t e) (tables_read u e) i
@@ -329,8 +329,8 @@ block_read p t u e ws i says-it many more room h put =
     updates = updates-kept h count counts moves
 
 -- An update with the number n, and a fault of its own.
-pub bad-update : (k : Kind) (p : Progress) (x x' : ReadTables) (i : Option Directive) (n : ℕ) → i ≡ some (update n)
-    → (f : Fault) → update_fault (updates_in x.plan) n ≡ some f
+pub bad-update : (k : Kind) (p : Progress) (x x' : ReadTables) (i : Option Directive) (n : ℕ) → i ≡ Some (update n)
+    → (f : Fault) → update_fault (updates_in x.plan) n ≡ Some f
     → LineStep k p x x' i (LineRead.Refused f (p.lines + 1))
 bad-update k p x x' i n says-it f bad =
     record {
@@ -352,7 +352,7 @@ unfolding blocks_written
 empty-written s = refl
 
 -- An update with the next number starts without moves.
-pub update-read : (k : Kind) (p : Progress) (t s u e : List ℕ) (i : Option Directive) (n : ℕ) → i ≡ some (update n)
+pub update-read : (k : Kind) (p : Progress) (t s u e : List ℕ) (i : Option Directive) (n : ℕ) → i ≡ Some (update n)
     → updates_in t ≡ n → n < 32 → p.lines < 65536 → Consistent p t
     → Put (counts_at + n) (0 ∷ []) t s → Put updates_at ((n + 1) ∷ []) s u
     → LineStep k p (tables_read t e) (tables_read u e) i
@@ -436,9 +436,9 @@ update-read k p t s u e i n says-it place few room h put put' =
         (omega (arith, count))
 
 module _ (k : Kind) (p : Progress) (x x' : ReadTables) (i : Option Directive) (y : Entry) (n : ℕ)
-    (says-it : i ≡ some (entry y n)) where
+    (says-it : i ≡ Some (entry y n)) where
   -- An entry that comes n times, and has a fault for that.
-  pub bad-entry : (f : Fault) → entry_fault p.entries n ≡ some f
+  pub bad-entry : (f : Fault) → entry_fault p.entries n ≡ Some f
       → LineStep k p x x' i (LineRead.Refused f (p.lines + 1))
   bad-entry f bad =
       record {
@@ -465,7 +465,7 @@ in-run n low high = rw (le-leb 1 n low, le-leb n 4000 high)
 
 -- An entry that comes n times is noted.
 pub entry_read : (k : Kind) (p : Progress) (t e e' : List ℕ) (i : Option Directive) (y : Entry) (n : ℕ)
-    → i ≡ some (entry y n) → 1 ≤ n → n ≤ 4000 → p.entries + n ≤ 4000 → p.lines < 65536 → Consistent p t
+    → i ≡ Some (entry y n) → 1 ≤ n → n ≤ 4000 → p.entries + n ≤ 4000 → p.lines < 65536 → Consistent p t
     → length e ≡ note_places
     → Put (note_start p.notes) (places_of (record { entry = y; times = n; line = p.lines + 1 })) e e'
     → LineStep k p (tables_read t e) (tables_read t e') i (LineRead.Read (further p n))
@@ -525,37 +525,37 @@ count_is p t n e h = rw (last-update t n e) at (sym h.counted)
 -- The fault of a move behind those of update n, by the rows 5, 9 and 10.
 abbrev pub judgement : List ℕ → Move → ℕ → Option Fault
 judgement t m n =
-    cond (leb 16 (count_at t n)) (some Fault.TooMany)
-    (cond (some_from ((sizes_in t).blocks * (sizes_in t).words) (named m)) (some Fault.BadWord)
+    cond (leb 16 (count_at t n)) (Some Fault.TooMany)
+    (cond (some_from ((sizes_in t).blocks * (sizes_in t).words) (named m)) (Some Fault.BadWord)
     (cond (ltb (sizes_in t).copies (length (blocks_written (sizes_in t).words (update_at t n ++ (m ∷ [])))))
-    (some Fault.TooManyBlocks)
-    none))
+    (Some Fault.TooManyBlocks)
+    None))
 
 module _ (t : List ℕ) (m : Move) (n : ℕ) where
   -- The 17th move.
-  pub judged-many : 16 ≤ count_at t n → judgement t m n ≡ some Fault.TooMany
+  pub judged-many : 16 ≤ count_at t n → judgement t m n ≡ Some Fault.TooMany
   judged-many many = rw (le-leb 16 (count_at t n) many)
 
   module _ (few : count_at t n < 16) where
     -- A word past the memory.
     pub judged-past : some_from ((sizes_in t).blocks * (sizes_in t).words) (named m) ≡ true
-        → judgement t m n ≡ some Fault.BadWord
+        → judgement t m n ≡ Some Fault.BadWord
     judged-past past = rw (lt-leb 16 (count_at t n) few, past)
 
     module _ (inside : some_from ((sizes_in t).blocks * (sizes_in t).words) (named m) ≡ false) (w : ℕ)
         (count : length (blocks_written (sizes_in t).words (update_at t n ++ (m ∷ []))) ≡ w) where
       -- One block too many.
-      pub judged-blocks : (sizes_in t).copies < w → judgement t m n ≡ some Fault.TooManyBlocks
+      pub judged-blocks : (sizes_in t).copies < w → judgement t m n ≡ Some Fault.TooManyBlocks
       judged-blocks more = rw (lt-leb 16 (count_at t n) few, inside, count, lt-ltb (sizes_in t).copies w more)
 
       -- No fault.
-      pub judged-none : w ≤ (sizes_in t).copies → judgement t m n ≡ none
+      pub judged-none : w ≤ (sizes_in t).copies → judgement t m n ≡ None
       judged-none enough = rw (lt-leb 16 (count_at t n) few, inside, count, le-ltb (sizes_in t).copies w enough)
 
 -- A move that comes after 16, names a word past the memory, or makes the update write too many blocks. The last update
 -- is the one at place n.
 pub bad-move : (k : Kind) (p : Progress) (x x' : ReadTables) (i : Option Directive) (m : Move) (n : ℕ) (f : Fault)
-    → i ≡ some (move m) → updates_in x.plan ≡ n + 1 → judgement x.plan m n ≡ some f
+    → i ≡ Some (move m) → updates_in x.plan ≡ n + 1 → judgement x.plan m n ≡ Some f
     → LineStep k p x x' i (LineRead.Refused f (p.lines + 1))
 bad-move k p x x' i m n f e last bad =
     record {
@@ -574,8 +574,8 @@ bad-move k p x x' i m n f e last bad =
 
 -- A move is put behind those of the last update, which then writes w blocks.
 pub move_read : (k : Kind) (p : Progress) (t s u e : List ℕ) (i : Option Directive) (m : Move) (n c w : ℕ)
-    → i ≡ some (move m) → updates_in t ≡ n + 1 → count_at t n ≡ c → c < 16 → w ≤ 8 → p.lines < 65536 → Consistent p t
-    → judgement t m n ≡ none → length (blocks_written (sizes_in t).words (update_at t n ++ (m ∷ []))) ≡ w
+    → i ≡ Some (move m) → updates_in t ≡ n + 1 → count_at t n ≡ c → c < 16 → w ≤ 8 → p.lines < 65536 → Consistent p t
+    → judgement t m n ≡ None → length (blocks_written (sizes_in t).words (update_at t n ++ (m ∷ []))) ≡ w
     → Put (move_start (16 * n + c)) (numbers_of m) t s → Put (counts_at + n) ((c + 1) ∷ []) s u
     → LineStep k p (tables_read t e) (tables_read u e) i
     (LineRead.Read (onward p p.jobs p.blocks w))

@@ -1,7 +1,7 @@
 -- What reading one line promises: what the tables hold afterwards is the draft after that line, with its entries noted,
 -- or the answer is the line's refusal. Progress and the answers are declared in src/lib.rt. Assumes nothing.
 use Rattle.std.specs.Prelude.{ℕ, ◌+◌, ◌≤◌, ◌<◌, ◌≡◌, Bool, true, false, List, ◌++◌, eqb, length}
-use Rattle.std.proofs.Math.Option.{Option, none, some}
+use Rattle.std.specs.Prelude.{Option, Some, None}
 use Rattle.read_few_numbers.specs.declared.Three.{Three}
 use Rattle.spec_format.specs.declared.Form.{Form}
 use Rattle.spec_format.specs.declared.Kind.{Kind}
@@ -112,8 +112,8 @@ pub record LineDone (form : Form) (p : Progress) (x x' : ReadTables) (bytes : Li
 
 -- What the line `update n` says, by what was read of its number.
 abbrev pub update_directive : Three → Option Directive
-update_directive (Three.Are n b c) = some (update n)
-update_directive Three.Bad = none
+update_directive (Three.Are n b c) = Some (update n)
+update_directive Three.Bad = None
 
 -- The move that a line says with its numbers: `copy d a`, `set d k` or `add d a k`.
 abbrev pub move_from : MoveKind → ℕ → ℕ → ℕ → Move
@@ -123,8 +123,8 @@ move_from MoveKind.Add d a k = Move.Add d a k
 
 -- What a line that holds a move says, by what was read of its numbers.
 abbrev pub move_directive : MoveKind → Three → Option Directive
-move_directive kind (Three.Are a b c) = some (move (move_from kind a b c))
-move_directive kind Three.Bad = none
+move_directive kind (Three.Are a b c) = Some (move (move_from kind a b c))
+move_directive kind Three.Bad = None
 
 -- The entry that a line says with its numbers: `call job update`, `step card` or `step card n`.
 abbrev pub entry_from : EntryKind → ℕ → ℕ → Entry
@@ -140,8 +140,8 @@ times_from EntryKind.Run n = n
 
 -- What a line that holds an entry says, by what was read of its numbers.
 abbrev pub entry_directive : EntryKind → Three → Option Directive
-entry_directive kind (Three.Are a b c) = some (entry (entry_from kind a b) (times_from kind b))
-entry_directive kind Three.Bad = none
+entry_directive kind (Three.Are a b c) = Some (entry (entry_from kind a b) (times_from kind b))
+entry_directive kind Three.Bad = None
 
 -- Whether one of the words is in a block of size s.
 abbrev pub writes_to : ℕ → ℕ → List ℕ → Bool

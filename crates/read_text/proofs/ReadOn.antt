@@ -4,7 +4,7 @@ use Prim.Native.Nat.{ℕ, ◌+◌, ◌-◌, ◌≤◌, ◌<◌}
 use mathlib.Core.Path.{◌≡◌, refl, sym, ◌∙◌, ap, subst}
 use mathlib.Core.Bool.{Bool, true, false, not, ◌&&◌}
 use mathlib.Core.List.{List, [], ◌∷◌, ◌++◌, append_assoc, append-nil}
-use mathlib.Core.Option.{Option, none, some}
+use Rattle.std.specs.Prelude.{Option, Some, None}
 use native.Mathlib.Omega.{arith}
 use borrow.Author.Tests.{ltb-false, le-ltb, lt-ltb, not-true}
 use lib.Dec.{ltb}
@@ -58,8 +58,8 @@ one_by_one form d l ls = go (first_of (has_fault form d (parsed_in d l)) by_rank
     go : (o : Option Fault)
         → or_else o (d.lines + 1) (read_lines form (after_line d l) ls)
         ≡ continue form ls (or_else o (d.lines + 1) (sound (after_line d l)))
-    go none = refl
-    go (some f) = refl
+    go None = refl
+    go (Some f) = refl
 
 -- A line taken apart is ended if the line is.
 ended_is : (s : ℕ) (e : Bool) (fs : List (List ℕ)) → (parsed_from s e fs).ended ≡ e
@@ -106,8 +106,8 @@ sound-after form d e r = go (first_of (has_fault form d r) by_rank)
   where
     go : (o : Option Fault) → sound e ≡ or_else o (d.lines + 1) (sound (after d r.directive))
         → e ≡ after d r.directive
-    go none q = cc
-    go (some f) q = let z : ◌≡◌ {A = ℕ} 0 1 = cc in absurd (omega arith)
+    go None q = cc
+    go (Some f) q = let z : ◌≡◌ {A = ℕ} 0 1 = cc in absurd (omega arith)
 
 module _ (form : Form) (text : List ℕ) (c : Cursor) (x x' : ReadTables) (end : ℕ) (inside : c.at < length text)
     (place : end ≡ place_of 10 text c.at) (more : end < length text) (ahead : c.at ≤ end) (q : Progress)

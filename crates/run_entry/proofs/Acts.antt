@@ -5,7 +5,7 @@ use mathlib.Core.Path.{◌≡◌, refl, sym, ◌∙◌, ap, subst}
 use mathlib.Core.Logic.{◌≢◌, inl}
 use mathlib.Core.Bool.{Bool, true, false, false≢true, not, cond}
 use mathlib.Core.List.{List, [], ◌∷◌, ◌++◌, append-nil}
-use mathlib.Core.Option.{Option, none, some}
+use Rattle.std.specs.Prelude.{Option, Some, None}
 use native.Mathlib.Numerals.{add-one}
 use native.Mathlib.Omega.{arith}
 use lib.Dec.{eqb}
@@ -304,11 +304,11 @@ leaves t x p (Change.Commit h) = record { entries = refl; halt = refl; other = r
 
 -- Whether there is one.
 abbrev holds : Option ℕ → Bool
-holds none = false
-holds (some n) = true
+holds None = false
+holds (Some n) = true
 
 -- The commits where a change commits none,
-commits-stay : (t : List ℕ) (x : Tables) (p : ℕ) (s : Change) → commit_by s ≡ none
+commits-stay : (t : List ℕ) (x : Tables) (p : ℕ) (s : Change) → commit_by s ≡ None
     → ((book_after t x p s).committed ≡ (book_of x).committed) × ((book_after t x p s).commits ≡ x.commits)
 commits-stay t x p Change.Nothing e = (refl, refl)
 commits-stay t x p (Change.Version n f) e = (refl, refl)
@@ -326,7 +326,7 @@ commits-stay t x p (Change.Decided h n) e = (refl, refl)
 commits-stay t x p (Change.Commit h) e = absurd (false≢true (sym (ap holds e)))
 
 -- and where it commits that of job h.
-commits-one : (t : List ℕ) (x : Tables) (p h : ℕ) (s : Change) → commit_by s ≡ some h
+commits-one : (t : List ℕ) (x : Tables) (p h : ℕ) (s : Change) → commit_by s ≡ Some h
     → book_after t x p s ≡ committing h (get_or x.cells (called_update_at h) 0) (book_of x)
 commits-one t x p h Change.Nothing e = cc
 commits-one t x p h (Change.Version n f) e = cc
@@ -410,7 +410,7 @@ module _ {t : List ℕ} {ws : List Registers} {x : Tables} (k : Kept t ws x) (p 
   -- The call that it commits, told by the place and the answer.
   committing-so :
       commit_by s.change
-      ≡ cond (commits_at (work_of (machine_of x ws) p).place out.done) (some (work_of (machine_of x ws) p).hid) none
+      ≡ cond (commits_at (work_of (machine_of x ws) p).place out.done) (Some (work_of (machine_of x ws) p).hid) None
   unfolding item_of
   committing-so =
       commits-so (sizes_in t).jobs p (own_of x.cells p) j.0 s.change
@@ -469,8 +469,8 @@ module _ {t : List ℕ} {ws : List Registers} {x : Tables} (k : Kept t ws x) (p 
 
   counts-by : (b : Bool) → commits_at (work_of (machine_of x ws) p).place out.done ≡ b → Counts
   counts-by false e =
-      let none_so : commit_by s.change ≡ none =
-      committing-so ∙ ap (λ b. cond b (some (work_of (machine_of x ws) p).hid) none) e in
+      let none_so : commit_by s.change ≡ None =
+      committing-so ∙ ap (λ b. cond b (Some (work_of (machine_of x ws) p).hid) None) e in
       let kept = commits-stay t x p s.change none_so in
       let count : (book_of y).committed ≡ (book_of x).committed = ap (λ (b : Book). b.committed) s.book_is ∙ kept.0 in
       let rows : y.commits ≡ x.commits = ap (λ (b : Book). b.commits) s.book_is ∙ kept.1 in
@@ -486,8 +486,8 @@ module _ {t : List ℕ} {ws : List Registers} {x : Tables} (k : Kept t ws x) (p 
       hid : ℕ
       hid = (work_of (machine_of x ws) p).hid
 
-      one : commit_by s.change ≡ some hid
-      one = committing-so ∙ ap (λ b. cond b (some hid) none) e
+      one : commit_by s.change ≡ Some hid
+      one = committing-so ∙ ap (λ b. cond b (Some hid) None) e
 
       book : book_of y ≡ counted (committing hid (get_or x.cells (called_update_at hid) 0) (book_of x))
       book = s.book_is ∙ ap counted (commits-one t x p hid s.change one)

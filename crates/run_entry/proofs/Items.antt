@@ -3,7 +3,7 @@ use Prim.Native.Nat.{ℕ, ◌<◌}
 use mathlib.Core.Path.{◌≡◌, refl}
 use mathlib.Core.Bool.{Bool, true, false, not, cond}
 use mathlib.Core.List.{List, [], ◌∷◌}
-use mathlib.Core.Option.{Option, none, some}
+use Rattle.std.specs.Prelude.{Option, Some, None}
 use native.Mathlib.Omega.{arith}
 use borrow.Author.Tests.{eq-eqb, ne_eqb}
 use lib.Dec.{eqb}
@@ -40,16 +40,16 @@ returns_in jobs (Store.Bank b n) = false
 
 -- The job whose call a store commits: its status becomes N.
 abbrev pub commit_in : ℕ → Store → Option ℕ
-commit_in jobs Store.Nothing = none
-commit_in jobs (Store.Version n f) = none
-commit_in jobs (Store.Ann r k) = none
-commit_in jobs (Store.Stat k x) = cond (same_status x (pos jobs)) (some k) none
-commit_in jobs (Store.Trans k u) = none
-commit_in jobs (Store.Listed i a b) = none
-commit_in jobs (Store.Block b c) = none
-commit_in jobs (Store.Word b i x) = none
-commit_in jobs Store.Published = none
-commit_in jobs (Store.Bank b n) = none
+commit_in jobs Store.Nothing = None
+commit_in jobs (Store.Version n f) = None
+commit_in jobs (Store.Ann r k) = None
+commit_in jobs (Store.Stat k x) = cond (same_status x (pos jobs)) (Some k) None
+commit_in jobs (Store.Trans k u) = None
+commit_in jobs (Store.Listed i a b) = None
+commit_in jobs (Store.Block b c) = None
+commit_in jobs (Store.Word b i x) = None
+commit_in jobs Store.Published = None
+commit_in jobs (Store.Bank b n) = None
 
 -- Whether a change is that of a return.
 abbrev pub returns_by : Change → Bool
@@ -70,20 +70,20 @@ returns_by (Change.Commit h) = false
 
 -- The job whose call a change commits.
 abbrev pub commit_by : Change → Option ℕ
-commit_by Change.Nothing = none
-commit_by (Change.Version n f) = none
-commit_by (Change.Announced r) = none
-commit_by (Change.Returned r) = none
-commit_by Change.Pending = none
-commit_by Change.Trans = none
-commit_by (Change.Listed i a b) = none
-commit_by (Change.Block a from to) = none
-commit_by (Change.Word b i x) = none
-commit_by (Change.Published n) = none
-commit_by (Change.Bank b n) = none
-commit_by Change.Cleared = none
-commit_by (Change.Decided h n) = none
-commit_by (Change.Commit h) = some h
+commit_by Change.Nothing = None
+commit_by (Change.Version n f) = None
+commit_by (Change.Announced r) = None
+commit_by (Change.Returned r) = None
+commit_by Change.Pending = None
+commit_by Change.Trans = None
+commit_by (Change.Listed i a b) = None
+commit_by (Change.Block a from to) = None
+commit_by (Change.Word b i x) = None
+commit_by (Change.Published n) = None
+commit_by (Change.Bank b n) = None
+commit_by Change.Cleared = None
+commit_by (Change.Decided h n) = None
+commit_by (Change.Commit h) = Some h
 
 module _ (jobs p : ℕ) (o : Own) (few : p < jobs) where
   -- Job p is not N.
@@ -186,7 +186,7 @@ module _ (plan : Plan) (s : Shared) (p : ℕ) (few : p < plan.sizes.jobs) where
 
   -- An item commits the call of job hid exactly where it is H42 done, of an active job.
   abbrev Committing : Place → ℕ → Out → Type 0
-  Committing place hid o = commit_in plan.sizes.jobs o.store ≡ cond (commits_at place o.done) (some hid) none
+  Committing place hid o = commit_in plan.sizes.jobs o.store ≡ cond (commits_at place o.done) (Some hid) None
 
   -- A stage does,
   stage-commits : (st : Stage) (w : Working) → Committing (Place.Move st) w.hid (stage plan s p st w)

@@ -3,7 +3,7 @@ use Prim.Native.Nat.{ℕ, zero, suc, ◌<◌}
 use mathlib.Core.Path.{◌≡◌, refl, ap, ◌∙◌}
 use mathlib.Core.Bool.{Bool, true, false, cond}
 use mathlib.Core.List.{List}
-use mathlib.Core.Option.{Option, none, some}
+use Rattle.std.specs.Prelude.{Option, Some, None}
 use native.Mathlib.Omega.{arith}
 use borrow.Author.Tests.{lt-leb}
 use lib.Dec.{ltb}
@@ -19,21 +19,21 @@ use Rattle.run_judge.specs.WhoRuns.{or_none, WhoRuns}
 
 -- A job, where there is one, is below n.
 abbrev pub Below : ℕ → Option ℕ → Type 0
-Below n none = Unit {0}
-Below n (some p) = p < n
+Below n None = Unit {0}
+Below n (Some p) = p < n
 
 -- The one of higher priority is one of the two.
-below-higher : (t : Bool) (n p : ℕ) → p < n → Below (suc n) (cond t (some n) (some p))
+below-higher : (t : Bool) (n p : ℕ) → p < n → Below (suc n) (cond t (Some n) (Some p))
 below-higher true n p h = omega arith
 below-higher false n p h = omega arith
 
 -- And so with one more job looked at.
 below_next :
     (plan : Plan) (n : ℕ) (t : Bool) (o : Option ℕ) → Below n o → Below (suc n) (cond t (higher plan o n) o)
-below_next plan n true none b = omega arith
-below_next plan n true (some p) b = below-higher (ltb (job_in plan p).priority (job_in plan n).priority) n p b
-below_next plan n false none b = tt
-below_next plan n false (some p) b = omega arith
+below_next plan n true None b = omega arith
+below_next plan n true (Some p) b = below-higher (ltb (job_in plan p).priority (job_in plan n).priority) n p b
+below_next plan n false None b = tt
+below_next plan n false (Some p) b = omega arith
 
 -- The job that runs on a card is one of the first n.
 pub runs-below : (plan : Plan) (m : Machine) (card n : ℕ) → Below n (runs_on plan m card n)
@@ -45,14 +45,14 @@ runs-below plan m card (suc n) =
 none_runs :
     (jobs : ℕ) (o : Option ℕ) → Below jobs o → (r : ℕ) → r ≡ or_none jobs o → r ≡ jobs
     → Judgement.Refused Refusal.NoneActive ≡ judge_running o
-none_runs jobs none b r e z = refl
-none_runs jobs (some p) b r e z = absurd (omega arith)
+none_runs jobs None b r e z = refl
+none_runs jobs (Some p) b r e z = absurd (omega arith)
 
 -- Any other number is the job that runs.
 one-runs :
     (jobs : ℕ) (o : Option ℕ) (r : ℕ) → r ≡ or_none jobs o → (r ≡ jobs → ⊥) → Judgement.Runs r ≡ judge_running o
-one-runs jobs none r e z = absurd (z e)
-one-runs jobs (some p) r e z = ap Judgement.Runs e
+one-runs jobs None r e z = absurd (z e)
+one-runs jobs (Some p) r e z = ap Judgement.Runs e
 
 -- So a step of a card of the plan is judged by the number that the book has for the card.
 module _

@@ -7,7 +7,7 @@ use mathlib.Core.Path.{◌≡◌, refl, sym, ◌∙◌, ap, subst}
 use mathlib.Core.Logic.{◌≢◌}
 use mathlib.Core.Bool.{Bool, true, false, cond, ◌&&◌}
 use mathlib.Core.List.{List, [], ◌∷◌, ◌++◌}
-use mathlib.Core.Option.{Option, none, some}
+use Rattle.std.specs.Prelude.{Option, Some, None}
 use native.Mathlib.Decide.{ℕ_discrete}
 use native.Mathlib.Omega.{arith}
 use borrow.Author.Tests.{eq-eqb, ne_eqb}
@@ -35,7 +35,7 @@ pub record OnlyDiffers (m m' : Machine) (p : ℕ) (up : Bool) : Type 0 where
   pub its_own : is_active (work_of m' p).place ≡ up
 
 -- A test between two jobs, N where there is none.
-or-none-test : (t : Bool) (jobs k p : ℕ) → or_none jobs (cond t (some k) (some p)) ≡ cond t k p
+or-none-test : (t : Bool) (jobs k p : ℕ) → or_none jobs (cond t (Some k) (Some p)) ≡ cond t k p
 or-none-test true jobs k p = refl
 or-none-test false jobs k p = refl
 
@@ -43,8 +43,8 @@ or-none-test false jobs k p = refl
 higher-is :
     (t : List ℕ) (k : ℕ) → k < (sizes_in t).jobs → (o : Option ℕ) → Below k o
     → higher_of t (or_none (sizes_in t).jobs o) k ≡ or_none (sizes_in t).jobs (higher (plan_in t) o k)
-higher-is t k h none b = rw (eq-eqb (sizes_in t).jobs (sizes_in t).jobs refl)
-higher-is t k h (some p) b =
+higher-is t k h None b = rw (eq-eqb (sizes_in t).jobs (sizes_in t).jobs refl)
+higher-is t k h (Some p) b =
     let other : eqb p (sizes_in t).jobs ≡ false = ne_eqb p (sizes_in t).jobs (λ e. omega (arith, e)) in
     rw (other, job-in t p (omega arith), job-in t k h)
     (sym (or-none-test (ltb (job_at t p).priority (job_at t k).priority) (sizes_in t).jobs k p))
@@ -164,7 +164,7 @@ module _
 
 -- Where no job is active, none runs.
 runs_none : (plan : Plan) (m : Machine) (card : ℕ) → ((k : ℕ) → is_active (work_of m k).place ≡ false)
-    → (n : ℕ) → runs_on plan m card n ≡ none
+    → (n : ℕ) → runs_on plan m card n ≡ None
 runs_none plan m card idle zero = refl
 runs_none plan m card idle (suc n) = rw (idle n) (runs_none plan m card idle n)
 
@@ -206,7 +206,7 @@ who-runs-opening t b none-active none_runs =
     }
 
 -- The number of a refusal says that it has stopped the run.
-pub halted-is : (r : Refusal) → halt_of (refusal_number r) ≡ some r
+pub halted-is : (r : Refusal) → halt_of (refusal_number r) ≡ Some r
 halted-is Refusal.NoSuch = refl
 halted-is Refusal.Active = refl
 halted-is Refusal.NoCard = refl

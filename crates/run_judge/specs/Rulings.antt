@@ -1,7 +1,7 @@
 -- What a record comes to in a run: once stopped, a run stays so, and the first record of another kind is noted. Ruling
 -- is declared in src/lib.rt. Assumes nothing.
 use Rattle.std.specs.Prelude.{ℕ, cond, eqb, ltb}
-use Rattle.std.proofs.Math.Option.{Option, none, some}
+use Rattle.std.specs.Prelude.{Option, Some, None}
 use Rattle.spec_format.specs.declared.Entry.{Entry}
 use Rattle.spec_format.specs.Plan.{Plan}
 use Rattle.spec_machine.specs.declared.Refusal.{Refusal}
@@ -19,7 +19,7 @@ refusal_numbered n =
 
 -- The refusal that has stopped a run, where one has.
 abbrev pub halt_of : ℕ → Option Refusal
-halt_of n = cond (eqb n 0) none (some (refusal_numbered n))
+halt_of n = cond (eqb n 0) None (Some (refusal_numbered n))
 
 -- The place of the first record of another kind, 0 where there is none, with one more record, at this place.
 abbrev pub other_after : ℕ → ℕ → ℕ → ℕ

@@ -1,7 +1,7 @@
 -- The book says which jobs are active and which one runs on each card, so that an entry is judged without looking
 -- through the records. Assumes nothing.
 use Rattle.std.specs.Prelude.{ℕ, ◌<◌, ◌≡◌, List, eqb, get_or}
-use Rattle.std.proofs.Math.Option.{Option, none, some}
+use Rattle.std.specs.Prelude.{Option, Some, None}
 use Rattle.read_tables.specs.PlanTable.{sizes_in, plan_in}
 use Rattle.spec_machine.specs.Places.{is_active}
 use Rattle.spec_machine.specs.Machine.{Machine, work_of}
@@ -10,8 +10,8 @@ use Rattle.step_cells.specs.Book.{Book}
 
 -- A job where there is one, and else N.
 abbrev pub or_none : ℕ → Option ℕ → ℕ
-or_none n none = n
-or_none n (some p) = p
+or_none n None = n
+or_none n (Some p) = p
 
 -- These numbers say which jobs are active.
 abbrev pub ActiveAre : Machine → List ℕ → Type 0

@@ -5,7 +5,7 @@ use Prim.Native.Nat.{ℕ, ◌+◌, ◌<◌}
 use mathlib.Core.Path.{◌≡◌, refl, sym, ◌∙◌, ap, subst}
 use mathlib.Core.Bool.{Bool, true, false, cond, ◌&&◌}
 use mathlib.Core.List.{List, [], ◌∷◌, ◌++◌, foldl, foldl-append, map-append, append-nil, append_assoc}
-use mathlib.Core.Option.{none, some}
+use Rattle.std.specs.Prelude.{Some, None}
 use lib.Dec.{eqb}
 use lib.ListN.{length}
 use Rattle.spec_format.specs.declared.Entry.{Entry}
@@ -42,7 +42,7 @@ use Rattle.run_loop.specs.CommitRows.{row_in, rows_in}
 
 module _ (plan : Plan) where
   -- A run that goes on after some entries.
-  pub run_more : (es : List Entry) (e : Entry) → (run_of plan es).refusal ≡ none
+  pub run_more : (es : List Entry) (e : Entry) → (run_of plan es).refusal ≡ None
       → run_of plan (es ++ (e ∷ [])) ≡ judged plan (run_of plan es) (judge plan (run_of plan es).machine e)
   unfolding run_of entered
   run_more es e going =
@@ -52,7 +52,7 @@ module _ (plan : Plan) where
       going
 
   -- A run that has stopped stays as it is.
-  stopped : (r : Run) (x : Refusal) (fs : List Entry) → r.refusal ≡ some x → foldl (entered plan) r fs ≡ r
+  stopped : (r : Run) (x : Refusal) (fs : List Entry) → r.refusal ≡ Some x → foldl (entered plan) r fs ≡ r
   unfolding entered
   stopped r x [] e = refl
   stopped r x (f ∷ fs) e =
@@ -60,16 +60,16 @@ module _ (plan : Plan) where
       ∙ stopped r x fs e
 
   -- A run that has stopped comes to the same with more entries.
-  pub run-stopped : (es fs : List Entry) (x : Refusal) → (run_of plan es).refusal ≡ some x
+  pub run-stopped : (es fs : List Entry) (x : Refusal) → (run_of plan es).refusal ≡ Some x
       → run_of plan (es ++ fs) ≡ run_of plan es
   unfolding run_of
   run-stopped es fs x e = foldl-append (entered plan) (begun plan) es fs ∙ stopped (run_of plan es) x fs e
 
   -- A refused entry ends the run: the state and the history stay, whatever comes behind it.
-  run-refused : (es : List Entry) (e : Entry) (fs : List Entry) (x : Refusal) → (run_of plan es).refusal ≡ none
+  run-refused : (es : List Entry) (e : Entry) (fs : List Entry) (x : Refusal) → (run_of plan es).refusal ≡ None
       → judge plan (run_of plan es).machine e ≡ Judgement.Refused x
       → run_of plan (es ++ (e ∷ fs))
-      ≡ record { machine = (run_of plan es).machine; history = (run_of plan es).history; refusal = some x }
+      ≡ record { machine = (run_of plan es).machine; history = (run_of plan es).history; refusal = Some x }
   unfolding run_of entered acted
   run-refused es e fs x going told =
       foldl-append (entered plan) (begun plan) es (e ∷ fs)
@@ -137,17 +137,17 @@ module _ (plan : Plan) where
   -- Some entries, none of them refused, come to the state and the history of a run.
   record AcceptedIn (r : Run) : Type 0 where
     entries : List Entry
-    unrefused : (run_of plan entries).refusal ≡ none
+    unrefused : (run_of plan entries).refusal ≡ None
     machine_is : (run_of plan entries).machine ≡ r.machine
     history-is : (run_of plan entries).history ≡ r.history
 
   -- No entry refuses an empty run.
-  none-refused : (run_of plan []).refusal ≡ none
+  none-refused : (run_of plan []).refusal ≡ None
   unfolding run_of begun
   none-refused = refl
 
   -- The accepted entries of a run: all that come before the first one that is refused.
-  accepted-in : (es fs : List Entry) → (run_of plan es).refusal ≡ none → AcceptedIn (run_of plan (es ++ fs))
+  accepted-in : (es fs : List Entry) → (run_of plan es).refusal ≡ None → AcceptedIn (run_of plan (es ++ fs))
   accepted-in es [] going =
       let same : run_of plan es ≡ run_of plan (es ++ []) = ap (run_of plan) (sym (append-nil es)) in
       record {
@@ -161,10 +161,10 @@ module _ (plan : Plan) where
     where
       -- what is known of the entries behind it
       Further : Type 0
-      Further = (run_of plan (es ++ (f ∷ []))).refusal ≡ none → AcceptedIn (run_of plan ((es ++ (f ∷ [])) ++ fs))
+      Further = (run_of plan (es ++ (f ∷ []))).refusal ≡ None → AcceptedIn (run_of plan ((es ++ (f ∷ [])) ++ fs))
 
       -- the entry is accepted
-      goes : Further → (j : Judgement) → judge plan (run_of plan es).machine f ≡ j → refusal_in j ≡ none
+      goes : Further → (j : Judgement) → judge plan (run_of plan es).machine f ≡ j → refusal_in j ≡ None
           → AcceptedIn (run_of plan (es ++ (f ∷ fs)))
       goes further j told ok =
           subst (λ l. AcceptedIn (run_of plan l)) (append_assoc es (f ∷ []) fs)

@@ -6,7 +6,7 @@ use native.Mathlib.Omega.{arith}
 use mathlib.Core.Path.{◌≡◌, refl, sym, ◌∙◌, ap, subst}
 use mathlib.Core.Bool.{Bool, true, false, cond}
 use mathlib.Core.List.{List, [], ◌∷◌, ◌++◌, append-nil}
-use mathlib.Core.Option.{none, some}
+use Rattle.std.specs.Prelude.{Some, None}
 use lib.Dec.{eqb}
 use lib.ListN.{length, take, length-append}
 use Rattle.spec_format.specs.declared.Entry.{Entry}
@@ -34,16 +34,16 @@ use Rattle.run_loop.proofs.Others.{other-kept}
 
 -- A judgement that no refusal is was made while the run went on: it is the judgement on the entry, and no number of a
 -- refusal is kept.
-went_on : (halt : ℕ) (a j : Judgement) → refusal_in j ≡ none → unless_halted halt a ≡ j → (a ≡ j)
-    × (halt_of halt ≡ none)
+went_on : (halt : ℕ) (a j : Judgement) → refusal_in j ≡ None → unless_halted halt a ≡ j → (a ≡ j)
+    × (halt_of halt ≡ None)
 went_on halt a j ok = by (eqb halt 0)
   where
     -- by whether the run goes on
     by : (b : Bool) → cond b a (Judgement.Refused (refusal_numbered halt)) ≡ j
-        → (a ≡ j) × (cond b none (some (refusal_numbered halt)) ≡ none)
+        → (a ≡ j) × (cond b None (Some (refusal_numbered halt)) ≡ None)
     by true is = (is, refl)
     by false is =
-        let z : some (refusal_numbered halt) ≡ none = ap refusal_in is ∙ ok in
+        let z : Some (refusal_numbered halt) ≡ None = ap refusal_in is ∙ ok in
         let n : ◌≡◌ {A = ℕ} 0 1 = cc in absurd (omega arith)
 
 -- A judgement that an entry can meet after n entries.
@@ -78,7 +78,7 @@ next-run plan es e halt j = by (eqb halt 0)
     r = run_of plan es
 
     -- by whether it goes on
-    by : (b : Bool) → cond b none (some (refusal_numbered halt)) ≡ r.refusal
+    by : (b : Bool) → cond b None (Some (refusal_numbered halt)) ≡ r.refusal
         → cond b (judge plan r.machine e) (Judgement.Refused (refusal_numbered halt)) ≡ j
         → run_of plan (es ++ (e ∷ [])) ≡ judged plan r j
     by true stopped is = run_more plan es e (sym stopped) ∙ ap (judged plan r) is

@@ -6,7 +6,7 @@ use native.Mathlib.Decide.{dec_lt}
 use mathlib.Core.Path.{◌≡◌, refl, sym, ◌∙◌, ap}
 use mathlib.Core.Bool.{Bool, true, false, cond, not, ◌||◌}
 use mathlib.Core.List.{List, [], ◌∷◌, ◌++◌}
-use mathlib.Core.Option.{Option, none, some}
+use Rattle.std.specs.Prelude.{Option, Some, None}
 use borrow.Author.Tests.{ne_eqb, lt-ltb, le-ltb}
 use lib.Dec.{eqb, ltb}
 use lib.ListN.{length}
@@ -17,8 +17,8 @@ use Rattle.run_loop.specs.RunReached.{place_noted}
 
 -- The first of two places, where there is one.
 abbrev or_else : Option ℕ → Option ℕ → Option ℕ
-or_else none q = q
-or_else (some n) q = some n
+or_else None q = q
+or_else (Some n) q = Some n
 
 -- A record is of another kind where its kind is over 1.
 over-one : (e : Entry) → is_other e ≡ ltb 1 e.kind
@@ -37,20 +37,20 @@ over-one e = by e.kind (dec_lt 1 e.kind)
 
 -- The first record of another kind, with one more record.
 other-more : (k : ℕ) (es : List Entry) (e : Entry)
-    → other_from k (es ++ (e ∷ [])) ≡ or_else (other_from k es) (cond (is_other e) (some (k + length es)) none)
-other-more k [] e = ap (λ n. cond (is_other e) (some n) none) (sym (add-zero k))
+    → other_from k (es ++ (e ∷ [])) ≡ or_else (other_from k es) (cond (is_other e) (Some (k + length es)) None)
+other-more k [] e = ap (λ n. cond (is_other e) (Some n) None) (sym (add-zero k))
 other-more k (x ∷ es) e = by (is_other x) (other-more (k + 1) es e)
   where
     -- by whether the first record is one
     by : (b : Bool)
         → other_from (k + 1) (es ++ (e ∷ []))
-        ≡ or_else (other_from (k + 1) es) (cond (is_other e) (some (k + 1 + length es)) none)
-        → cond b (some k) (other_from (k + 1) (es ++ (e ∷ [])))
-        ≡ or_else (cond b (some k) (other_from (k + 1) es)) (cond (is_other e) (some (k + length (x ∷ es))) none)
+        ≡ or_else (other_from (k + 1) es) (cond (is_other e) (Some (k + 1 + length es)) None)
+        → cond b (Some k) (other_from (k + 1) (es ++ (e ∷ [])))
+        ≡ or_else (cond b (Some k) (other_from (k + 1) es)) (cond (is_other e) (Some (k + length (x ∷ es))) None)
     by true more = refl
     by false more =
         let same : k + 1 + length es ≡ k + length (x ∷ es) = omega arith in
-        more ∙ ap (λ n. or_else (other_from (k + 1) es) (cond (is_other e) (some n) none)) same
+        more ∙ ap (λ n. or_else (other_from (k + 1) es) (cond (is_other e) (Some n) None)) same
 
 -- What the code keeps of it.
 pub other-kept : (es : List Entry) (e : Entry) (other place : ℕ) → place_noted other ≡ other_from 1 es
@@ -58,8 +58,8 @@ pub other-kept : (es : List Entry) (e : Entry) (other place : ℕ) → place_not
     → place_noted (other_after other place e.kind) ≡ other_from 1 (es ++ (e ∷ []))
 other-kept es e other place was here =
     by other
-    ∙ ap (λ q. or_else q (cond (is_other e) (some (suc (length es))) none)) was
-    ∙ ap (λ n. or_else (other_from 1 es) (cond (is_other e) (some n) none)) one_more
+    ∙ ap (λ q. or_else q (cond (is_other e) (Some (suc (length es))) None)) was
+    ∙ ap (λ n. or_else (other_from 1 es) (cond (is_other e) (Some n) None)) one_more
     ∙ sym (other-more 1 es e)
   where
     -- the place behind these records
@@ -67,13 +67,13 @@ other-kept es e other place was here =
     one_more = omega arith
 
     -- where there was none
-    new : (b : Bool) → place_noted (cond b place 0) ≡ cond b (some (suc (length es))) none
+    new : (b : Bool) → place_noted (cond b place 0) ≡ cond b (Some (suc (length es))) None
     new true = ap place_noted here
     new false = refl
 
     -- by whether there was one
     by : (n : ℕ)
         → place_noted (other_after n place e.kind)
-        ≡ or_else (place_noted n) (cond (is_other e) (some (suc (length es))) none)
-    by zero = new (ltb 1 e.kind) ∙ ap (λ b. cond b (some (suc (length es))) none) (sym (over-one e))
+        ≡ or_else (place_noted n) (cond (is_other e) (Some (suc (length es))) None)
+    by zero = new (ltb 1 e.kind) ∙ ap (λ b. cond b (Some (suc (length es))) None) (sym (over-one e))
     by (suc n) = rw (lt-ltb 0 (suc n) (omega arith))

@@ -1,7 +1,7 @@
 -- What the code of a run has reached: the state that the definitions give for the records that have run so far. Assumes
 -- nothing.
 use Rattle.std.specs.Prelude.{ℕ, zero, suc, ◌≤◌, ◌≡◌, List, [], length, take, replicate}
-use Rattle.std.proofs.Math.Option.{Option, none, some}
+use Rattle.std.specs.Prelude.{Option, Some, None}
 use Rattle.spec_format.specs.declared.Entry.{Entry}
 use Rattle.spec_format.specs.Sound.{Sound}
 use Rattle.read_tables.specs.PlanTable.{plan_in}
@@ -16,8 +16,8 @@ use Rattle.run_loop.specs.CommitRows.{rows_in}
 
 -- A place, where 0 is none.
 abbrev pub place_noted : ℕ → Option ℕ
-place_noted zero = none
-place_noted (suc n) = some (suc n)
+place_noted zero = None
+place_noted (suc n) = Some (suc n)
 
 -- A run of the plan in a table has come through the records `done` of the schedule `all`.
 pub record Reached (t : List ℕ) (all done : List Entry) (ws : List Registers) (x : Tables) : Type 0 where

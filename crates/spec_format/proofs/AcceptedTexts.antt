@@ -4,7 +4,7 @@ use Prim.Native.Nat.{ℕ, ◌≤◌}
 use native.Mathlib.Omega.{arith}
 use mathlib.Core.Path.{◌≡◌}
 use mathlib.Core.List.{List}
-use mathlib.Core.Option.{Option, none, some}
+use Rattle.std.specs.Prelude.{Option, Some, None}
 use lib.Dec.{ltb}
 use lib.ListN.{length}
 use borrow.Author.Tests.{le-ltb, ltb-false}
@@ -18,8 +18,8 @@ use Rattle.spec_format.specs.Reading.{accepted, given, longest, reading}
 
 -- The plan of an outcome that is no refusal.
 abbrev pub plan_read : ReadOutcome → Option Plan
-plan_read (refused f n) = none
-plan_read (sound d) = some d.plan
+plan_read (refused f n) = None
+plan_read (sound d) = Some d.plan
 
 -- The plan that lines give after a draft, where no line has a fault.
 abbrev pub plan_of : Form → Draft → List Line → Option Plan
@@ -28,20 +28,20 @@ plan_of form d ls = plan_read (read_lines form d ls)
 -- What an accepted text says, by its lines.
 pub record Says (form : Form) (text : List ℕ) (p : Plan) (es : List Listed) (k : ℕ) : Type 0 where
   pub short : length text ≤ longest
-  pub plan-is : plan_of form blank (lines text) ≡ some p
+  pub plan-is : plan_of form blank (lines text) ≡ Some p
   pub entries_are : es ≡ entries_of p.sizes.words 1 (lines text)
   pub count_is : k ≡ length (lines text)
 
 -- Lines that are accepted give the plan, their entries and their count.
 given-says :
     (ls : List Line) (o : ReadOutcome) (p : Plan) (es : List Listed) (k : ℕ) → given ls o ≡ accepted p es k
-    → (plan_read o ≡ some p) × (es ≡ entries_of p.sizes.words 1 ls) × (k ≡ length ls)
+    → (plan_read o ≡ Some p) × (es ≡ entries_of p.sizes.words 1 ls) × (k ≡ length ls)
 given-says ls (refused f n) p es k e = (cc, cc, cc)
 given-says ls (sound d) p es k e = (cc, cc, cc)
 
 -- Lines that give a plan are accepted with it, their entries and their count.
 plan-given :
-    (ls : List Line) (o : ReadOutcome) (p : Plan) → plan_read o ≡ some p
+    (ls : List Line) (o : ReadOutcome) (p : Plan) → plan_read o ≡ Some p
     → given ls o ≡ accepted p (entries_of p.sizes.words 1 ls) (length ls)
 plan-given ls (refused f n) p e = cc
 plan-given ls (sound d) p e = cc

@@ -12,7 +12,8 @@ use Rattle.spec_text.specs.Lines.{lines, fields}
 use Rattle.spec_text.specs.Numbers.{number}
 use Rattle.spec_format.specs.declared.Fault.{Fault}
 use Rattle.spec_format.specs.declared.Form.{Form}
-use Rattle.spec_format.specs.declared.Verdict.{Verdict}
+use Rattle.std.specs.Prelude.{Result, Ok, Err}
+use Rattle.spec_format.specs.declared.LineFault.{LineFault}
 use Rattle.spec_format.specs.declared.Move.{Move}
 use Rattle.spec_format.specs.Plan.{Listed, blocks_written}
 use Rattle.spec_format.specs.Kinds.{kind_of}
@@ -20,10 +21,14 @@ use Rattle.spec_format.specs.ParsedLines.{parsed_of}
 use Rattle.spec_format.specs.Reading.{Reading, refusal, accepted, reading, verdict_of}
 use Rattle.spec_format.specs.UpdateNumbers.{update_lines, directives, update_numbers, moves_behind}
 
+-- A refusal by a fault, in a line.
+abbrev pub refused_at : Fault → ℕ → Result ℕ LineFault
+refused_at f n = Err (record { fault = f; line = n })
+
 -- A text with the verdict that it must be given.
 pub record Row : Type 0 where
   pub text : List ℕ
-  pub verdict : Verdict
+  pub verdict : Result ℕ LineFault
 
 -- A plan with one job and one block in three lines, with more lines behind.
 abbrev pub small : String → List ℕ
@@ -41,54 +46,54 @@ full more = small "" ++ (update_lines 32 ++ bytes more)
 abbrev pub rows : List Row
 rows =
     -- a plan with one job and one block, an update and two entries
-    record { text = small "update\t0\nadd\t0\t0\t2\ncall\t0\t0\nstep\t0\n"; verdict = Verdict.Accepted 7 }
+    record { text = small "update\t0\nadd\t0\t0\t2\ncall\t0\t0\nstep\t0\n"; verdict = Ok 7 }
     -- three cards
     ∷ record {
       text = bytes "plan\t3\t3\t1\t2\t1\njob\t0\t1\njob\t1\t1\njob\t2\t0\nblock\t0\t4294967295\n";
-      verdict = Verdict.Accepted 5;
+      verdict = Ok 5;
     }
     -- nothing at all ends too early
-    ∷ record { text = bytes ""; verdict = Verdict.Refused Fault.Misplaced 1 }
+    ∷ record { text = bytes ""; verdict = refused_at Fault.Misplaced 1 }
     -- P is 9
-    ∷ record { text = bytes "plan\t9\t1\t1\t1\t1\n"; verdict = Verdict.Refused Fault.BadSize 1 }
+    ∷ record { text = bytes "plan\t9\t1\t1\t1\t1\n"; verdict = refused_at Fault.BadSize 1 }
     -- P is 8; then the text ends too early
-    ∷ record { text = bytes "plan\t8\t1\t1\t1\t1\n"; verdict = Verdict.Refused Fault.Misplaced 2 }
+    ∷ record { text = bytes "plan\t8\t1\t1\t1\t1\n"; verdict = refused_at Fault.Misplaced 2 }
     -- one line that cannot stand there, has a bad number and a wrong count of fields
-    ∷ record { text = bytes "job\t0x\t1\t2\n"; verdict = Verdict.Refused Fault.Misplaced 1 }
+    ∷ record { text = bytes "job\t0x\t1\t2\n"; verdict = refused_at Fault.Misplaced 1 }
     -- a bad number in a line that is out of range too, and faults in later lines
-    ∷ record { text = bytes "plan\t1\t1\t1\t1\t1\njob\t1\t00\nblok\nstep"; verdict = Verdict.Refused Fault.Malformed 2 }
+    ∷ record { text = bytes "plan\t1\t1\t1\t1\t1\njob\t1\t00\nblok\nstep"; verdict = refused_at Fault.Malformed 2 }
     -- a last line without its line feed, behind good ones
-    ∷ record { text = bytes "plan\t1\t1\t1\t1\t1\njob\t0\t255"; verdict = Verdict.Refused Fault.Unknown 2 }
+    ∷ record { text = bytes "plan\t1\t1\t1\t1\t1\njob\t0\t255"; verdict = refused_at Fault.Unknown 2 }
     -- a schedule of 4,000 steps of one card
-    ∷ record { text = small "step\t0\t4000\n"; verdict = Verdict.Accepted 4 }
+    ∷ record { text = small "step\t0\t4000\n"; verdict = Ok 4 }
     -- a run of none, of one too many, which is 16 before it is 5, and of a step, behind a full schedule
-    ∷ record { text = small "step\t0\t4000\nstep\t0\t0\n"; verdict = Verdict.Refused Fault.BadRun 5 }
-    ∷ record { text = small "step\t0\t4000\nstep\t0\t4001\n"; verdict = Verdict.Refused Fault.BadRun 5 }
-    ∷ record { text = small "step\t0\t4000\nstep\t0\t1\n"; verdict = Verdict.Refused Fault.TooMany 5 }
+    ∷ record { text = small "step\t0\t4000\nstep\t0\t0\n"; verdict = refused_at Fault.BadRun 5 }
+    ∷ record { text = small "step\t0\t4000\nstep\t0\t4001\n"; verdict = refused_at Fault.BadRun 5 }
+    ∷ record { text = small "step\t0\t4000\nstep\t0\t1\n"; verdict = refused_at Fault.TooMany 5 }
     -- a run that passes 4,000 behind a call
-    ∷ record { text = small "update\t0\ncall\t0\t0\nstep\t0\t4000\n"; verdict = Verdict.Refused Fault.TooMany 6 }
+    ∷ record { text = small "update\t0\ncall\t0\t0\nstep\t0\t4000\n"; verdict = refused_at Fault.TooMany 6 }
     -- a run with an empty field for its n, with a bad number, and with a field too many
-    ∷ record { text = small "step\t0\t\n"; verdict = Verdict.Refused Fault.Malformed 4 }
-    ∷ record { text = small "step\t0\t00\n"; verdict = Verdict.Refused Fault.Malformed 4 }
-    ∷ record { text = small "step\t0\t1\t1\n"; verdict = Verdict.Refused Fault.Malformed 4 }
+    ∷ record { text = small "step\t0\t\n"; verdict = refused_at Fault.Malformed 4 }
+    ∷ record { text = small "step\t0\t00\n"; verdict = refused_at Fault.Malformed 4 }
+    ∷ record { text = small "step\t0\t1\t1\n"; verdict = refused_at Fault.Malformed 4 }
     -- updates with their numbers, from 0
-    ∷ record { text = three_updates; verdict = Verdict.Accepted 7 }
+    ∷ record { text = three_updates; verdict = Ok 7 }
     -- an update from 1 on, a number left out, and one that was there
-    ∷ record { text = small "update\t1\n"; verdict = Verdict.Refused Fault.Misnumbered 4 }
-    ∷ record { text = small "update\t0\nupdate\t2\n"; verdict = Verdict.Refused Fault.Misnumbered 5 }
-    ∷ record { text = small "update\t0\nupdate\t0\n"; verdict = Verdict.Refused Fault.Misnumbered 5 }
+    ∷ record { text = small "update\t1\n"; verdict = refused_at Fault.Misnumbered 4 }
+    ∷ record { text = small "update\t0\nupdate\t2\n"; verdict = refused_at Fault.Misnumbered 5 }
+    ∷ record { text = small "update\t0\nupdate\t0\n"; verdict = refused_at Fault.Misnumbered 5 }
     -- an update without its number, with a leading zero, and with a field too many
-    ∷ record { text = small "update\n"; verdict = Verdict.Refused Fault.Malformed 4 }
-    ∷ record { text = small "update\t00\n"; verdict = Verdict.Refused Fault.Malformed 4 }
-    ∷ record { text = small "update\t0\t0\n"; verdict = Verdict.Refused Fault.Malformed 4 }
+    ∷ record { text = small "update\n"; verdict = refused_at Fault.Malformed 4 }
+    ∷ record { text = small "update\t00\n"; verdict = refused_at Fault.Malformed 4 }
+    ∷ record { text = small "update\t0\t0\n"; verdict = refused_at Fault.Malformed 4 }
     -- the 33rd update: 4, which is judged before 5; 5, which is judged before 17; 5 with the next number too
-    ∷ record { text = full "update\t032\n"; verdict = Verdict.Refused Fault.Malformed 36 }
-    ∷ record { text = full "update\t0\n"; verdict = Verdict.Refused Fault.TooMany 36 }
-    ∷ record { text = full "update\t32\n"; verdict = Verdict.Refused Fault.TooMany 36 }
+    ∷ record { text = full "update\t032\n"; verdict = refused_at Fault.Malformed 36 }
+    ∷ record { text = full "update\t0\n"; verdict = refused_at Fault.TooMany 36 }
+    ∷ record { text = full "update\t32\n"; verdict = refused_at Fault.TooMany 36 }
     -- 32 updates pass
-    ∷ record { text = full ""; verdict = Verdict.Accepted 35 }
+    ∷ record { text = full ""; verdict = Ok 35 }
     -- an update with a wrong number behind an entry is 3
-    ∷ record { text = small "step\t0\nupdate\t1\n"; verdict = Verdict.Refused Fault.Misplaced 5 }
+    ∷ record { text = small "step\t0\nupdate\t1\n"; verdict = refused_at Fault.Misplaced 5 }
     ∷ []
 
 -- The verdicts are those of the rows.

@@ -13,7 +13,7 @@ use mathlib.Core.Path.{◌≡◌, refl, sym, ◌∙◌, ap}
 use mathlib.Core.Logic.{◌↔◌, ◌⊎◌, inl, inr}
 use mathlib.Core.Bool.{Bool, true, false, cond, not, ◌&&◌, true≢false}
 use mathlib.Core.List.{List, [], ◌∷◌}
-use mathlib.Core.Option.{Option, none, some}
+use Rattle.std.specs.Prelude.{Option, Some, None}
 use lib.Dec.{ltb}
 use lib.ListN.{length, take, drop}
 use borrow.Author.Tests.{ltb-true, eq-eqb, ne_eqb}
@@ -110,24 +110,24 @@ pub record Lowest (has : Fault → Bool) (f : Fault) : Type 0 where
 
 -- What is found is the fault with the lowest rank, and where nothing is found no fault is there.
 abbrev pub Found : (Fault → Bool) → Option Fault → Type 0
-Found has none = Clear has
-Found has (some f) = Lowest has f
+Found has None = Clear has
+Found has (Some f) = Lowest has f
 
 -- The same of the faults of a list.
 abbrev FoundIn : (Fault → Bool) → List Fault → Option Fault → Type 0
-FoundIn has l none = (g : Fault) → In g l → has g ≡ false
-FoundIn has l (some f) = (has f ≡ true) × ((g : Fault) → In g l → rank g < rank f → has g ≡ false)
+FoundIn has l None = (g : Fault) → In g l → has g ≡ false
+FoundIn has l (Some f) = (has f ≡ true) × ((g : Fault) → In g l → rank g < rank f → has g ≡ false)
 
 -- One fault more in front, which is not there.
 found-more :
     (has : Fault → Bool) (f : Fault) (fs : List Fault) (x : Option Fault) → has f ≡ false → FoundIn has fs x
     → FoundIn has (f ∷ fs) x
-found-more has f fs none e rest = go
+found-more has f fs None e rest = go
   where
     go : (g : Fault) → In g (f ∷ fs) → has g ≡ false
     go g (inl same) = rw same e
     go g (inr there) = rest g there
-found-more has f fs (some h) e rest = (rest.0, go)
+found-more has f fs (Some h) e rest = (rest.0, go)
   where
     go : (g : Fault) → In g (f ∷ fs) → rank g < rank h → has g ≡ false
     go g (inl same) l = rw same e
@@ -143,14 +143,14 @@ first-lowest has (f ∷ fs) n rising = go (has f) refl (first-lowest has fs (ran
     none_before g (inr there) l = absurd (omega (arith, l, above (rank f) fs g rising.1 there))
 
     go : (b : Bool) → has f ≡ b → FoundIn has fs (first_of has fs)
-        → FoundIn has (f ∷ fs) (cond b (some f) (first_of has fs))
+        → FoundIn has (f ∷ fs) (cond b (Some f) (first_of has fs))
     go true e rest = (e, none_before)
     go false e rest = found-more has f fs (first_of has fs) e rest
 
 -- What is found among all faults is the lowest of all.
 of-all : (has : Fault → Bool) (x : Option Fault) → FoundIn has faults x → Found has x
-of-all has none found = λ g. found g (all_in g)
-of-all has (some f) found = record { here = found.0; sooner = λ g l. found.1 g (all_in g) l }
+of-all has None found = λ g. found g (all_in g)
+of-all has (Some f) found = record { here = found.0; sooner = λ g l. found.1 g (all_in g) l }
 
 -- What is found in a line is its lowest fault.
 pub line-lowest :
@@ -160,7 +160,7 @@ line-lowest form d r =
     (first-lowest (has_fault form d r) faults 0 all-rising)
 
 -- Where only f can be there, by one test: f is the lowest where the test passes, and none is there where it fails.
-sole : (f : Fault) (b : Bool) → Found (λ g. same_fault g f && b) (cond b (some f) none)
+sole : (f : Fault) (b : Bool) → Found (λ g. same_fault g f && b) (cond b (Some f) None)
 sole f true =
     record {
       here = rw (eq-eqb (rank f) (rank f) refl);
@@ -204,14 +204,14 @@ RightOutcome has n (sound d) = (i : ℕ) → Clear (has i)
 right-step :
     (has : ℕ → Fault → Bool) (n : ℕ) (x : Option Fault) (rest : ReadOutcome) → Found (has 0) x
     → RightOutcome (λ j. has (suc j)) (n + 1) rest → RightOutcome has n (or_else x n rest)
-right-step has n (some f) rest found right = (0, omega arith, at_once found)
-right-step has n none (refused f m) found right = (suc right.0, omega arith, later found right.2)
-right-step has n none (sound d) found right = all-clear has found right
+right-step has n (Some f) rest found right = (0, omega arith, at_once found)
+right-step has n None (refused f m) found right = (suc right.0, omega arith, later found right.2)
+right-step has n None (sound d) found right = all-clear has found right
 
 -- A line more is counted, whatever it says.
 pub one_more : (d : Draft) (x : Option Directive) → (after d x).lines ≡ d.lines + 1
-one_more d none = refl
-one_more d (some i) = refl
+one_more d None = refl
+one_more d (Some i) = refl
 
 -- The lines after a draft are read with a right outcome; place i is the line with i of them before it.
 lines-right :
@@ -223,7 +223,7 @@ lines-right form d [] = go (laid_out d) (sole Fault.Misplaced (not (laid_out d))
     has i = next_has form (draft_after d (take i [])) (drop i [])
 
     go :
-        (b : Bool) → Found (next_has form d []) (cond (not b) (some Fault.Misplaced) none)
+        (b : Bool) → Found (next_has form d []) (cond (not b) (Some Fault.Misplaced) None)
         → RightOutcome has (d.lines + 1) (cond b (sound d) (refused Fault.Misplaced (d.lines + 1)))
     go true clear = all-clear has clear (λ j. clear)
     go false lowest = (0, omega arith, at_once lowest)
@@ -258,11 +258,11 @@ reading-right form text = go (ltb longest (length text)) (sole Fault.TooLong (lt
     rest = read_lines form blank (lines text)
 
     go :
-        (b : Bool) → Found (has 0) (cond b (some Fault.TooLong) none)
+        (b : Bool) → Found (has 0) (cond b (Some Fault.TooLong) None)
         → RightReading has (cond b (refusal Fault.TooLong 0) (given (lines text) rest))
     go true lowest = at_once lowest
     go false clear =
-        given-right has (lines text) rest (right-step has 0 none rest clear (lines-right form blank (lines text)))
+        given-right has (lines text) rest (right-step has 0 None rest clear (lines-right form blank (lines text)))
 
 -- Of two that are lowest, neither has the lower rank.
 not-sooner : {has : Fault → Bool} {f g : Fault} → Lowest has f → Lowest has g → ¬ (rank f < rank g)

@@ -6,10 +6,9 @@ use Prim.Native.Nat.{ℕ, zero, suc, ◌+◌, ◌≤◌}
 use native.Mathlib.Omega.{arith}
 use mathlib.Core.Path.{◌≡◌, refl}
 use mathlib.Core.List.{List, [], ◌∷◌, ◌++◌}
-use mathlib.Core.Option.{Option, none, some}
+use Rattle.std.specs.Prelude.{Option, Some, None}
 use lib.ListN.{get_or, take, drop}
 use Rattle.spec_text.specs.Numbers.{largest, number}
-use Rattle.spec_text.specs.declared.Number.{Number}
 use Rattle.spec_text.specs.Lines.{Line, fields, lines, and_then, numbers}
 use Rattle.spec_text.proofs.Decimal.{number-decimal}
 use Rattle.spec_text.proofs.WrittenLines.{AllFit}
@@ -63,14 +62,14 @@ fit_at (n ∷ ns) (suc i) fit = fit_at ns i fit.1
 
 -- Where numbers could be read, none is too large.
 abbrev ReadFit : Option (List ℕ) → Type 0
-ReadFit none = Unit {0}
-ReadFit (some ns) = AllFit ns
+ReadFit None = Unit {0}
+ReadFit (Some ns) = AllFit ns
 
 -- The number of a field is not too large, in front of others that are not.
-fit-more : (f : List ℕ) (x : Number) (o : Option (List ℕ)) → number f ≡ x → ReadFit o → ReadFit (and_then x o)
-fit-more f (Number.Value n) none e fit = tt
-fit-more f (Number.Value n) (some ns) e fit = (((number-decimal f n).0 e).0, fit)
-fit-more f Number.Bad o e fit = tt
+fit-more : (f : List ℕ) (x : Option ℕ) (o : Option (List ℕ)) → number f ≡ x → ReadFit o → ReadFit (and_then x o)
+fit-more f (Some n) None e fit = tt
+fit-more f (Some n) (Some ns) e fit = (((number-decimal f n).0 e).0, fit)
+fit-more f None o e fit = tt
 
 -- So the numbers that are read from fields are not.
 numbers_fit : (n : ℕ) (fs : List (List ℕ)) → ReadFit (numbers n fs)
@@ -81,27 +80,27 @@ numbers_fit (suc n) (f ∷ fs) = fit-more f (number f) (numbers n fs) refl (numb
 
 -- What a line says has only such numbers, of those that no range limits.
 abbrev SaidFits : Option Directive → Type 0
-SaidFits none = Unit {0}
-SaidFits (some (plan s)) = Unit {0}
-SaidFits (some (job j)) = Unit {0}
-SaidFits (some (block ws)) = AllFit ws
-SaidFits (some (update n)) = Unit {0}
-SaidFits (some (move m)) = AmountFits m
-SaidFits (some (entry e n)) = Unit {0}
+SaidFits None = Unit {0}
+SaidFits (Some (plan s)) = Unit {0}
+SaidFits (Some (job j)) = Unit {0}
+SaidFits (Some (block ws)) = AllFit ws
+SaidFits (Some (update n)) = Unit {0}
+SaidFits (Some (move m)) = AmountFits m
+SaidFits (Some (entry e n)) = Unit {0}
 
 -- So it is by the kind and the numbers,
 said_fits : (k : Kind) (o : Option (List ℕ)) → ReadFit o → SaidFits (directive_of k o)
-said_fits k none fit = tt
-said_fits Kind.Plan (some ns) fit = tt
-said_fits Kind.Job (some ns) fit = tt
-said_fits Kind.Block (some ns) fit = fit
-said_fits Kind.Update (some ns) fit = tt
-said_fits Kind.Copy (some ns) fit = tt
-said_fits Kind.Set (some ns) fit = fit_at ns 1 fit
-said_fits Kind.Add (some ns) fit = fit_at ns 2 fit
-said_fits Kind.Call (some ns) fit = tt
-said_fits Kind.Step (some ns) fit = tt
-said_fits Kind.Unknown (some ns) fit = tt
+said_fits k None fit = tt
+said_fits Kind.Plan (Some ns) fit = tt
+said_fits Kind.Job (Some ns) fit = tt
+said_fits Kind.Block (Some ns) fit = fit
+said_fits Kind.Update (Some ns) fit = tt
+said_fits Kind.Copy (Some ns) fit = tt
+said_fits Kind.Set (Some ns) fit = fit_at ns 1 fit
+said_fits Kind.Add (Some ns) fit = fit_at ns 2 fit
+said_fits Kind.Call (Some ns) fit = tt
+said_fits Kind.Step (Some ns) fit = tt
+said_fits Kind.Unknown (Some ns) fit = tt
 
 -- by the fields,
 fields_fit : (s : ℕ) (fs : List (List ℕ)) (l : Line) → SaidFits (parsed_from s l.ended fs).directive
@@ -127,25 +126,25 @@ moves_more (n ∷ ms) m fit last (suc i) = moves_more ms m (λ j. fit (suc j)) l
 
 -- A plan with what one more line says.
 after-fits : (d : Draft) (x : Option Directive) → Fits d.plan → SaidFits x → Fits (after d x).plan
-after-fits d none fits said = fits
-after-fits d (some (plan s)) fits said = record { words = fits.words; amounts = fits.amounts }
-after-fits d (some (job j)) fits said = record { words = fits.words; amounts = fits.amounts }
-after-fits d (some (block ws)) fits said =
+after-fits d None fits said = fits
+after-fits d (Some (plan s)) fits said = record { words = fits.words; amounts = fits.amounts }
+after-fits d (Some (job j)) fits said = record { words = fits.words; amounts = fits.amounts }
+after-fits d (Some (block ws)) fits said =
     record { words = fit_append d.plan.words ws fits.words said; amounts = fits.amounts }
-after-fits d (some (update n)) fits said =
+after-fits d (Some (update n)) fits said =
     record { words = fits.words; amounts = λ u. rw (one-empty d.plan.updates u) (fits.amounts u) }
-after-fits d (some (move m)) fits said =
+after-fits d (Some (move m)) fits said =
     record {
       words = fits.words;
       amounts =
           each-added MovesFit m d.plan.updates fits.amounts
           (moves_more (last_of d.plan.updates) m (of-last MovesFit d.plan.updates fits.amounts) said);
     }
-after-fits d (some (entry e n)) fits said = fits
+after-fits d (Some (entry e n)) fits said = fits
 
 -- The plan that lines give.
 lines_fit :
-    (form : Form) (d : Draft) (ls : List Line) (p : Plan) → Fits d.plan → plan_of form d ls ≡ some p → Fits p
+    (form : Form) (d : Draft) (ls : List Line) (p : Plan) → Fits d.plan → plan_of form d ls ≡ Some p → Fits p
 lines_fit form d [] p fits e = rw (at-end d (laid_out d) (d.lines + 1) p e) at fits
 lines_fit form d (l ∷ ls) p fits e =
     let r = parsed_in d l in

@@ -8,7 +8,7 @@ use native.Mathlib.Omega.{arith}
 use mathlib.Core.Path.{◌≡◌, refl}
 use mathlib.Core.Bool.{Bool, true, false, cond}
 use mathlib.Core.List.{List, [], ◌∷◌, ◌++◌, map}
-use mathlib.Core.Option.{Option, none, some}
+use Rattle.std.specs.Prelude.{Option, Some, None}
 use lib.Dec.{ltb, eqb}
 use lib.ListN.{length, get_or, replicate}
 use borrow.Author.Tests.{ltb-false}
@@ -67,13 +67,13 @@ run-low n m (suc k) e es h low (suc i) = run-low n m k e es h low i
 listed-low :
     (n m : ℕ) (x : Option Directive) (es : List Listed) → n < m → ((i : ℕ) → line_at es i < m)
     → (i : ℕ) → line_at (listed n x ++ es) i < m
-listed-low n m none es h low i = low i
-listed-low n m (some (plan s)) es h low i = low i
-listed-low n m (some (job j)) es h low i = low i
-listed-low n m (some (block ws)) es h low i = low i
-listed-low n m (some (update k)) es h low i = low i
-listed-low n m (some (move k)) es h low i = low i
-listed-low n m (some (entry e k)) es h low i = run-low n m k e es h low i
+listed-low n m None es h low i = low i
+listed-low n m (Some (plan s)) es h low i = low i
+listed-low n m (Some (job j)) es h low i = low i
+listed-low n m (Some (block ws)) es h low i = low i
+listed-low n m (Some (update k)) es h low i = low i
+listed-low n m (Some (move k)) es h low i = low i
+listed-low n m (Some (entry e k)) es h low i = run-low n m k e es h low i
 
 -- The entries of lines that are numbered from n on stand before line m, where the lines do.
 entries-low :
@@ -96,8 +96,8 @@ end_refused d false n m h = h
 -- A refusal at line n, or what comes of the rest.
 or-refused : (x : Option Fault) (n m : ℕ) (rest : ReadOutcome) → n ≤ m → LowOutcome m rest
     → LowOutcome m (or_else x n rest)
-or-refused (some f) n m rest h low = h
-or-refused none n m rest h low = low
+or-refused (Some f) n m rest h low = h
+or-refused None n m rest h low = low
 
 -- Lines are refused at one of them, or at the line behind the last.
 lines-refused :

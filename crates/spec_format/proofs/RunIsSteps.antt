@@ -11,7 +11,7 @@ use native.Mathlib.Omega.{arith}
 use mathlib.Core.Path.{◌≡◌, refl, sym, ◌∙◌, ap}
 use mathlib.Core.Bool.{Bool, true, false, cond, not, ◌&&◌, true≢false, false≢true}
 use mathlib.Core.List.{List, [], ◌∷◌, ◌++◌, map, append_assoc, map-append}
-use mathlib.Core.Option.{Option, none, some}
+use Rattle.std.specs.Prelude.{Option, Some, None}
 use lib.Dec.{ltb, eqb}
 use lib.ListN.{length, replicate, length-append, length-replicate}
 use lib.Seq.{drop-append_seam}
@@ -93,8 +93,8 @@ whole_append (b ∷ c ∷ s) t e =
 or-plan :
     (x : Option Fault) (m n : ℕ) (one other : ReadOutcome) → plan_read one ≡ plan_read other
     → plan_read (or_else x m one) ≡ plan_read (or_else x n other)
-or-plan (some f) m n one other e = refl
-or-plan none m n one other e = e
+or-plan (Some f) m n one other e = refl
+or-plan None m n one other e = e
 
 -- A draft with another count of lines.
 abbrev pub numbered : ℕ → Draft → Draft
@@ -102,8 +102,8 @@ numbered n d = record { lines = n; blocks = d.blocks; entries = d.entries; plan 
 
 -- One more line.
 pub numbered-after : (m : ℕ) (d : Draft) (x : Option Directive) → after (numbered m d) x ≡ numbered (m + 1) (after d x)
-numbered-after m d none = refl
-numbered-after m d (some i) = refl
+numbered-after m d None = refl
+numbered-after m d (Some i) = refl
 
 -- A count of lines counts only as none or some: where a kind can stand does not depend on how many there are,
 same_place :
@@ -123,13 +123,13 @@ same_place form d m n h l Kind.Unknown = refl
 -- nor whether a line is one too many,
 same-many :
     (d : Draft) (m n : ℕ) (x : Option Directive) → one_too_many (numbered m d) x ≡ one_too_many (numbered n d) x
-same-many d m n none = refl
-same-many d m n (some (plan s)) = refl
-same-many d m n (some (job j)) = refl
-same-many d m n (some (block ws)) = refl
-same-many d m n (some (update k)) = refl
-same-many d m n (some (move k)) = refl
-same-many d m n (some (entry e k)) = refl
+same-many d m n None = refl
+same-many d m n (Some (plan s)) = refl
+same-many d m n (Some (job j)) = refl
+same-many d m n (Some (block ws)) = refl
+same-many d m n (Some (update k)) = refl
+same-many d m n (Some (move k)) = refl
+same-many d m n (Some (entry e k)) = refl
 
 -- nor the fault that is found in a line,
 same-fault :
@@ -163,7 +163,7 @@ same-front form xs ys same (l ∷ ls) d =
 
 -- A line taken apart that says an entry n times.
 abbrev entry_line : Entry → ℕ → ParsedLine
-entry_line e n = record { ended = true; kind = Kind.Step; directive = some (entry e n) }
+entry_line e n = record { ended = true; kind = Kind.Step; directive = Some (entry e n) }
 
 -- The draft after it.
 abbrev counted : ℕ → Draft → Draft
@@ -179,10 +179,10 @@ found-entry :
     (place run full : Bool) (line : ℕ) (rest : ReadOutcome) → (full ≡ false → run ≡ true)
     → plan_read
     (or_else
-    (cond (not place) (some Fault.Misplaced) (cond (not run) (some Fault.BadRun) (cond full (some Fault.TooMany) none)))
+    (cond (not place) (Some Fault.Misplaced) (cond (not run) (Some Fault.BadRun) (cond full (Some Fault.TooMany) None)))
     line
     rest)
-    ≡ cond (place && not full) (plan_read rest) none
+    ≡ cond (place && not full) (plan_read rest) None
 found-entry false run full line rest h = refl
 found-entry true true true line rest h = refl
 found-entry true true false line rest h = refl
@@ -193,7 +193,7 @@ found-entry true false false line rest h = absurd (false≢true (h refl))
 entry_read :
     (form : Form) (d : Draft) (l : Line) (e : Entry) (n : ℕ) (ls : List Line) → 1 ≤ n
     → parsed_in d l ≡ entry_line e n
-    → plan_of form d (l ∷ ls) ≡ cond (room form d n) (plan_of form (counted n d) ls) none
+    → plan_of form d (l ∷ ls) ≡ cond (room form d n) (plan_of form (counted n d) ls) None
 entry_read form d l e n ls some-entry is =
     rw is
     (found-entry (takes_entries form && laid_out d) (within 1 longest_run n) (ltb most_entries (d.entries + n))
@@ -205,7 +205,7 @@ entry_read form d l e n ls some-entry is =
 -- Where there is room for more there is room for one.
 one-room :
     (full-at-one full : Bool) (o : Option Plan) → (full ≡ false → full-at-one ≡ false)
-    → cond (not full-at-one) (cond (not full) o none) none ≡ cond (not full) o none
+    → cond (not full-at-one) (cond (not full) o None) None ≡ cond (not full) o None
 one-room false full o h = refl
 one-room true true o h = refl
 one-room true false o h = absurd (true≢false (h refl))
@@ -213,8 +213,8 @@ one-room true false o h = absurd (true≢false (h refl))
 -- Room for one entry and then for n more is room for n + 1.
 one-and-more :
     (form : Form) (d : Draft) (n : ℕ) (ls : List Line)
-    → cond (room form d 1) (cond (room form (counted 1 d) n) (plan_of form (counted n (counted 1 d)) ls) none) none
-    ≡ cond (room form d (suc n)) (plan_of form (counted (suc n) d) ls) none
+    → cond (room form d 1) (cond (room form (counted 1 d) n) (plan_of form (counted n (counted 1 d)) ls) None) None
+    ≡ cond (room form d (suc n)) (plan_of form (counted (suc n) d) ls) None
 one-and-more form d n ls =
     by-test (takes_entries form && laid_out d)
     (λ t.
@@ -240,11 +240,11 @@ one-and-more form d n ls =
 steps-read :
     (form : Form) (l : Line) (e : Entry) → ((s : ℕ) → parsed_of s l ≡ entry_line e 1)
     → (n : ℕ) (d : Draft) (ls : List Line)
-    → plan_of form d (replicate (suc n) l ++ ls) ≡ cond (room form d (suc n)) (plan_of form (counted (suc n) d) ls) none
+    → plan_of form d (replicate (suc n) l ++ ls) ≡ cond (room form d (suc n)) (plan_of form (counted (suc n) d) ls) None
 steps-read form l e is zero d ls = entry_read form d l e 1 ls (omega arith) (is d.plan.sizes.words)
 steps-read form l e is (suc n) d ls =
     entry_read form d l e 1 (replicate (suc n) l ++ ls) (omega arith) (is d.plan.sizes.words)
-    ∙ ap (λ o. cond (room form d 1) o none) (steps-read form l e is n (counted 1 d) ls)
+    ∙ ap (λ o. cond (room form d 1) o None) (steps-read form l e is n (counted 1 d) ls)
     ∙ one-and-more form d (suc n) ls
 
 -- A run in front of lines gives the plan that its steps in front of them give.
@@ -292,13 +292,13 @@ module _ (at n : ℕ) where
   -- The entries of a line, in the line that it then is.
   listed-joined :
       (k : ℕ) (x : Option Directive) → map (in_joined at n) (listed k x) ≡ listed (joined_line at n k) x
-  listed-joined k none = refl
-  listed-joined k (some (plan s)) = refl
-  listed-joined k (some (job j)) = refl
-  listed-joined k (some (block ws)) = refl
-  listed-joined k (some (update i)) = refl
-  listed-joined k (some (move i)) = refl
-  listed-joined k (some (entry e m)) = run-joined e k m
+  listed-joined k None = refl
+  listed-joined k (Some (plan s)) = refl
+  listed-joined k (Some (job j)) = refl
+  listed-joined k (Some (block ws)) = refl
+  listed-joined k (Some (update i)) = refl
+  listed-joined k (Some (move i)) = refl
+  listed-joined k (Some (entry e m)) = run-joined e k m
 
   -- The entries of lines from k on, which are then lines from m on.
   entries-joined :

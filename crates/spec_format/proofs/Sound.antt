@@ -11,14 +11,13 @@ use native.Mathlib.Decide.{dec_lt}
 use mathlib.Core.Path.{◌≡◌, refl, sym, ◌∙◌, ap}
 use mathlib.Core.Bool.{Bool, true, false, cond, not, ◌&&◌, ◌||◌, true≢false}
 use mathlib.Core.List.{List, [], ◌∷◌, ◌++◌}
-use mathlib.Core.Option.{Option, none, some}
+use Rattle.std.specs.Prelude.{Option, Some, None}
 use lib.Dec.{ltb, leb, eqb}
 use lib.ListN.{length, get_or, length-append, length-map, length-replicate, get_or-append, get_or-eq_default}
 use lib.Seq.{get_or_at}
 use borrow.Author.Tests.{ltb-true, ltb-false, leb-true, leb-false, eqb-true, eq-eqb, not-true, not-false}
 use Rattle.spec_text.specs.Lines.{Line, lines, fields, numbers, and_then}
 use Rattle.spec_text.specs.Numbers.{number}
-use Rattle.spec_text.specs.declared.Number.{Number}
 use Rattle.spec_text.proofs.Cases.{both, neither}
 use Rattle.spec_format.specs.declared.Kind.{Kind}
 use Rattle.spec_format.specs.declared.Fault.{Fault}
@@ -247,7 +246,7 @@ laid_out_lem d e =
 
 module _ (d : Draft) (safe : SoundSoFar d) where
   -- A plan line that is the first.
-  plan-kept : (s : Sizes) → eqb d.lines 0 ≡ true → in_range s ≡ true → SoundSoFar (after d (some (plan s)))
+  plan-kept : (s : Sizes) → eqb d.lines 0 ≡ true → in_range s ≡ true → SoundSoFar (after d (Some (plan s)))
   plan-kept s first good =
       let start : d.lines ≡ 0 = eqb-true d.lines 0 first in
       let small = ranges s good in
@@ -273,7 +272,7 @@ module _ (d : Draft) (safe : SoundSoFar d) where
   -- A job that the plan still lacks, on a card, of a low priority and not taken.
   job-kept :
       (j : Job) → lacks_jobs d ≡ true → (leb d.plan.sizes.cards j.card || ltb 255 j.priority) ≡ false
-      → taken j d.plan.jobs ≡ false → SoundSoFar (after d (some (job j)))
+      → taken j d.plan.jobs ≡ false → SoundSoFar (after d (Some (job j)))
   job-kept j lacks good free =
       let more : length d.plan.jobs < d.plan.sizes.jobs = ltb-true _ _ lacks in
       let tests = neither (leb d.plan.sizes.cards j.card) (ltb 255 j.priority) good in
@@ -293,7 +292,7 @@ module _ (d : Draft) (safe : SoundSoFar d) where
   -- A block that the plan still lacks, with S words.
   block-kept :
       (ws : List ℕ) → length ws ≡ d.plan.sizes.words → (not (lacks_jobs d) && lacks_blocks d) ≡ true
-      → SoundSoFar (after d (some (block ws)))
+      → SoundSoFar (after d (Some (block ws)))
   block-kept ws size stands =
       let lacks : lacks_blocks d ≡ true = (both (not (lacks_jobs d)) (lacks_blocks d) stands).1 in
       let more : d.blocks < d.plan.sizes.blocks = ltb-true _ _ lacks in
@@ -310,7 +309,7 @@ module _ (d : Draft) (safe : SoundSoFar d) where
   -- An update that may stand and is not one too many, whatever its number.
   update-kept :
       (n : ℕ) → (laid_out d && eqb d.entries 0) ≡ true → leb 32 (length d.plan.updates) ≡ false
-      → SoundSoFar (after d (some (update n)))
+      → SoundSoFar (after d (Some (update n)))
   update-kept n stands few =
       let begun : 0 < d.lines = (laid_out_lem d (both (laid_out d) (eqb d.entries 0) stands).0).0 in
       let room : length d.plan.updates < 32 = leb-false 32 (length d.plan.updates) few in
@@ -338,7 +337,7 @@ module _ (d : Draft) (safe : SoundSoFar d) where
       → ltb d.plan.sizes.copies
       (length (blocks_written d.plan.sizes.words (last_of d.plan.updates ++ (m ∷ []))))
       ≡ false
-      → SoundSoFar (after d (some (move m)))
+      → SoundSoFar (after d (Some (move m)))
   move-kept m stands few inside blocks =
       let behind = (both (laid_out d && eqb d.entries 0) (ltb 0 (length d.plan.updates)) stands).0 in
       let begun : 0 < d.lines = (laid_out_lem d (both (laid_out d) (eqb d.entries 0) behind).0).0 in
@@ -364,7 +363,7 @@ module _ (d : Draft) (safe : SoundSoFar d) where
   -- An entry that may stand, and that comes not too often.
   entry_kept :
       (form : Form) (e : Entry) (n : ℕ) → (takes_entries form && laid_out d) ≡ true
-      → ltb most_entries (d.entries + n) ≡ false → SoundSoFar (after d (some (entry e n)))
+      → ltb most_entries (d.entries + n) ≡ false → SoundSoFar (after d (Some (entry e n)))
   entry_kept form e n stands few =
       let begun : 0 < d.lines = (laid_out_lem d (both (takes_entries form) (laid_out d) stands).1).0 in
       record {
@@ -379,14 +378,14 @@ module _ (d : Draft) (safe : SoundSoFar d) where
 
 -- Numbers that could be read are n of them.
 abbrev Sized : ℕ → Option (List ℕ) → Type 0
-Sized n none = Unit {0}
-Sized n (some ns) = length ns ≡ n
+Sized n None = Unit {0}
+Sized n (Some ns) = length ns ≡ n
 
 -- A number in front makes one more.
-sized-more : (n : ℕ) (x : Number) (o : Option (List ℕ)) → Sized n o → Sized (suc n) (and_then x o)
-sized-more n (Number.Value k) none e = tt
-sized-more n (Number.Value k) (some ns) e = omega arith
-sized-more n Number.Bad o e = tt
+sized-more : (n : ℕ) (x : Option ℕ) (o : Option (List ℕ)) → Sized n o → Sized (suc n) (and_then x o)
+sized-more n (Some k) None e = tt
+sized-more n (Some k) (Some ns) e = omega arith
+sized-more n None o e = tt
 
 -- Fields are read to as many numbers as are asked for.
 sized : (n : ℕ) (fs : List (List ℕ)) → Sized n (numbers n fs)
@@ -401,31 +400,31 @@ kept :
     → Sized (number_count d.plan.sizes.words k fs) o
     → Clear (has_fault form d (record { ended = ended; kind = k; directive = directive_of k o }))
     → SoundSoFar (after d (directive_of k o))
-kept form d ended k fs none safe size clear = absurd (true≢false (clear Fault.Malformed))
-kept form d ended Kind.Plan fs (some ns) safe size clear =
+kept form d ended k fs None safe size clear = absurd (true≢false (clear Fault.Malformed))
+kept form d ended Kind.Plan fs (Some ns) safe size clear =
     plan-kept d safe _ (not-false _ (clear Fault.Misplaced)) (not-false _ (clear Fault.BadSize))
-kept form d ended Kind.Job fs (some ns) safe size clear =
+kept form d ended Kind.Job fs (Some ns) safe size clear =
     job-kept d safe _ (not-false _ (clear Fault.Misplaced)) (clear Fault.BadJob) (clear Fault.SameJob)
-kept form d ended Kind.Block fs (some ns) safe size clear =
+kept form d ended Kind.Block fs (Some ns) safe size clear =
     block-kept d safe ns size (not-false _ (clear Fault.Misplaced))
-kept form d ended Kind.Update fs (some ns) safe size clear =
+kept form d ended Kind.Update fs (Some ns) safe size clear =
     update-kept d safe (get_or ns 0 0) (not-false _ (clear Fault.Misplaced)) (clear Fault.TooMany)
-kept form d ended Kind.Copy fs (some ns) safe size clear =
+kept form d ended Kind.Copy fs (Some ns) safe size clear =
     move-kept d safe _ (not-false _ (clear Fault.Misplaced)) (clear Fault.TooMany) (clear Fault.BadWord)
     (clear Fault.TooManyBlocks)
-kept form d ended Kind.Set fs (some ns) safe size clear =
+kept form d ended Kind.Set fs (Some ns) safe size clear =
     move-kept d safe _ (not-false _ (clear Fault.Misplaced)) (clear Fault.TooMany) (clear Fault.BadWord)
     (clear Fault.TooManyBlocks)
-kept form d ended Kind.Add fs (some ns) safe size clear =
+kept form d ended Kind.Add fs (Some ns) safe size clear =
     move-kept d safe _ (not-false _ (clear Fault.Misplaced)) (clear Fault.TooMany) (clear Fault.BadWord)
     (clear Fault.TooManyBlocks)
-kept form d ended Kind.Call fs (some ns) safe size clear =
+kept form d ended Kind.Call fs (Some ns) safe size clear =
     entry_kept d safe form (record { kind = 0; first = get_or ns 0 0; second = get_or ns 1 0 }) 1
     (not-false _ (clear Fault.Misplaced)) (clear Fault.TooMany)
-kept form d ended Kind.Step fs (some ns) safe size clear =
+kept form d ended Kind.Step fs (Some ns) safe size clear =
     entry_kept d safe form (record { kind = 1; first = get_or ns 0 0; second = 0 }) (get_or ns 1 1)
     (not-false _ (clear Fault.Misplaced)) (clear Fault.TooMany)
-kept form d ended Kind.Unknown fs (some ns) safe size clear = absurd (true≢false (clear Fault.Malformed))
+kept form d ended Kind.Unknown fs (Some ns) safe size clear = absurd (true≢false (clear Fault.Malformed))
 
 -- A line's fields without a fault.
 fields-kept :
@@ -446,11 +445,11 @@ line_kept form d l safe clear = fields-kept form d l.ended (fields l.bytes) safe
 
 -- What is read off a directive that does not tell a block from a line that cannot be read does not depend on how many
 -- words a block has.
-module _ {A : Type 0} (of : Option Directive → A) (silent : (ws : List ℕ) → of (some (block ws)) ≡ of none) where
+module _ {A : Type 0} (of : Option Directive → A) (silent : (ws : List ℕ) → of (Some (block ws)) ≡ of None) where
   -- Of a block's line,
-  block_same : (o : Option (List ℕ)) → of (directive_of Kind.Block o) ≡ of none
-  block_same none = refl
-  block_same (some ns) = silent ns
+  block_same : (o : Option (List ℕ)) → of (directive_of Kind.Block o) ≡ of None
+  block_same None = refl
+  block_same (Some ns) = silent ns
 
   -- of a line of some kind,
   kind-same :
@@ -489,13 +488,13 @@ listed_once e n = record { entry = e; line = n }
 
 -- The entries after a line are those before it and its own.
 counted : (d : Draft) (n : ℕ) (x : Option Directive) → (after d x).entries ≡ d.entries + length (listed n x)
-counted d n none = omega arith
-counted d n (some (plan s)) = omega arith
-counted d n (some (job j)) = omega arith
-counted d n (some (block ws)) = omega arith
-counted d n (some (update k)) = omega arith
-counted d n (some (move m)) = omega arith
-counted d n (some (entry e k)) = omega (arith, length-replicate k (listed_once e n))
+counted d n None = omega arith
+counted d n (Some (plan s)) = omega arith
+counted d n (Some (job j)) = omega arith
+counted d n (Some (block ws)) = omega arith
+counted d n (Some (update k)) = omega arith
+counted d n (Some (move m)) = omega arith
+counted d n (Some (entry e k)) = omega (arith, length-replicate k (listed_once e n))
 
 -- A reading of lines, behind a draft with some entries, that ends well.
 record Ends (entries : ℕ) (ls : List Line) (d : Draft) : Type 0 where
@@ -540,8 +539,8 @@ line-sound d l ls (sound z) ends =
 or_sound :
     {has : Fault → Bool} (entries : ℕ) (ls : List Line) (x : Option Fault) (n : ℕ) (rest : ReadOutcome) → Found has x
     → (Clear has → SoundOutcome entries ls rest) → SoundOutcome entries ls (or_else x n rest)
-or_sound entries ls (some f) n rest found sound-rest = tt
-or_sound entries ls none n rest found sound-rest = sound-rest found
+or_sound entries ls (Some f) n rest found sound-rest = tt
+or_sound entries ls None n rest found sound-rest = sound-rest found
 
 -- Lines behind a draft that is sound so far are read with a sound outcome.
 lines-sound :

@@ -6,7 +6,7 @@ use native.Mathlib.Omega.{arith}
 use mathlib.Core.Path.{◌≡◌, refl, sym, ◌∙◌, subst}
 use mathlib.Core.Bool.{Bool, true, false, cond, not}
 use mathlib.Core.List.{List, [], ◌∷◌, ◌++◌, append_assoc, append-nil}
-use mathlib.Core.Option.{Option, none, some}
+use Rattle.std.specs.Prelude.{Option, Some, None}
 use lib.Dec.{eqb}
 use lib.ListN.{length, get_or, length-append}
 use borrow.Author.Tests.{eqb-true, eqb-false, eq-eqb, ne_eqb, not-false}
@@ -53,11 +53,11 @@ added-by-number m (v ∷ w ∷ us) (suc u) =
 one-more-line : (d : Draft) (x : Option Directive) (is : List (Option Directive)) (vs : List (List Move))
     → of_update (λ n. not (eqb n (length d.plan.updates))) x ≡ false
     → Makes (after d x).plan.updates is vs → Makes d.plan.updates (x ∷ is) vs
-one-more-line d none is vs right makes = makes
-one-more-line d (some (plan s)) is vs right makes = makes
-one-more-line d (some (job j)) is vs right makes = makes
-one-more-line d (some (block ws)) is vs right makes = makes
-one-more-line d (some (update n)) is vs right makes =
+one-more-line d None is vs right makes = makes
+one-more-line d (Some (plan s)) is vs right makes = makes
+one-more-line d (Some (job j)) is vs right makes = makes
+one-more-line d (Some (block ws)) is vs right makes = makes
+one-more-line d (Some (update n)) is vs right makes =
     let us : List (List Move) = d.plan.updates in
     let next : n ≡ length us = eqb-true n (length us) (not-false _ right) in
     let count : length (us ++ ([] ∷ [])) ≡ suc (length us) = omega (arith, length-append us ([] ∷ [])) in (
@@ -66,27 +66,27 @@ one-more-line d (some (update n)) is vs right makes =
           ∙ (rw count at makes.0)),
       λ u. rw (next, ← both-more (length us) u, ← count, ← one-empty us u) (makes.1 u),
     )
-one-more-line d (some (move m)) is vs right makes =
+one-more-line d (Some (move m)) is vs right makes =
     let us : List (List Move) = d.plan.updates in (
       rw (as_many m us) at makes.0,
       λ u. sym (append_assoc (get_or us u []) _ _) ∙ (rw (as_many m us, added-by-number m us u) at (makes.1 u)),
     )
-one-more-line d (some (entry e n)) is vs right makes = makes
+one-more-line d (Some (entry e n)) is vs right makes = makes
 
 -- A line in front of lines that give a plan has no fault.
-pub no-fault : (x : Option Fault) (n : ℕ) (rest : ReadOutcome) (p : Plan) → plan_read (or_else x n rest) ≡ some p
-    → (x ≡ none) × (plan_read rest ≡ some p)
-no-fault (some f) n rest p e = (cc, cc)
-no-fault none n rest p e = (refl, e)
+pub no-fault : (x : Option Fault) (n : ℕ) (rest : ReadOutcome) (p : Plan) → plan_read (or_else x n rest) ≡ Some p
+    → (x ≡ None) × (plan_read rest ≡ Some p)
+no-fault (Some f) n rest p e = (cc, cc)
+no-fault None n rest p e = (refl, e)
 
 -- The plan at the end of a text.
 pub at-end : (d : Draft) (b : Bool) (n : ℕ) (p : Plan)
-    → plan_read (cond b (sound d) (refused Fault.Misplaced n)) ≡ some p → d.plan ≡ p
+    → plan_read (cond b (sound d) (refused Fault.Misplaced n)) ≡ Some p → d.plan ≡ p
 at-end d true n p e = cc
 at-end d false n p e = cc
 
 -- Lines that give a plan make its updates.
-lines-make : (form : Form) (d : Draft) (ls : List Line) (s : ℕ) (p : Plan) → plan_of form d ls ≡ some p
+lines-make : (form : Form) (d : Draft) (ls : List Line) (s : ℕ) (p : Plan) → plan_of form d ls ≡ Some p
     → Makes d.plan.updates (directives s ls) p.updates
 lines-make form d [] s p e =
     rw (← at-end d (laid_out d) (d.lines + 1) p e) (append-nil _, λ u. append-nil _)

@@ -3,7 +3,7 @@
 -- variants and Form are declared in src/lib.rt. Assumes nothing.
 use Rattle.std.specs.Prelude.{ℕ, ◌+◌, ◌*◌, Bool, true, false, not, ◌&&◌, ◌||◌, List, [], ◌∷◌, ◌++◌, ltb, leb, eqb}
 use Rattle.std.specs.Prelude.{length}
-use Rattle.std.proofs.Math.Option.{Option, none, some}
+use Rattle.std.specs.Prelude.{Option, Some, None}
 use Rattle.spec_format.specs.declared.Kind.{Kind}
 use Rattle.spec_format.specs.declared.Fault.{Fault}
 use Rattle.spec_format.specs.declared.Form.{Form}
@@ -125,58 +125,58 @@ some_from n ws = any (λ w. leb n w) ws
 
 -- A test of the sizes that a line says, where it says any.
 abbrev pub of_plan : (Sizes → Bool) → Option Directive → Bool
-of_plan f none = false
-of_plan f (some (plan s)) = f s
-of_plan f (some (job j)) = false
-of_plan f (some (block ws)) = false
-of_plan f (some (update n)) = false
-of_plan f (some (move m)) = false
-of_plan f (some (entry e n)) = false
+of_plan f None = false
+of_plan f (Some (plan s)) = f s
+of_plan f (Some (job j)) = false
+of_plan f (Some (block ws)) = false
+of_plan f (Some (update n)) = false
+of_plan f (Some (move m)) = false
+of_plan f (Some (entry e n)) = false
 
 -- The same of the job.
 abbrev pub of_job : (Job → Bool) → Option Directive → Bool
-of_job f none = false
-of_job f (some (plan s)) = false
-of_job f (some (job j)) = f j
-of_job f (some (block ws)) = false
-of_job f (some (update n)) = false
-of_job f (some (move m)) = false
-of_job f (some (entry e n)) = false
+of_job f None = false
+of_job f (Some (plan s)) = false
+of_job f (Some (job j)) = f j
+of_job f (Some (block ws)) = false
+of_job f (Some (update n)) = false
+of_job f (Some (move m)) = false
+of_job f (Some (entry e n)) = false
 
 -- The same of the move.
 abbrev pub of_move : (Move → Bool) → Option Directive → Bool
-of_move f none = false
-of_move f (some (plan s)) = false
-of_move f (some (job j)) = false
-of_move f (some (block ws)) = false
-of_move f (some (update n)) = false
-of_move f (some (move m)) = f m
-of_move f (some (entry e n)) = false
+of_move f None = false
+of_move f (Some (plan s)) = false
+of_move f (Some (job j)) = false
+of_move f (Some (block ws)) = false
+of_move f (Some (update n)) = false
+of_move f (Some (move m)) = f m
+of_move f (Some (entry e n)) = false
 
 -- The same of the number of an update.
 abbrev pub of_update : (ℕ → Bool) → Option Directive → Bool
-of_update f none = false
-of_update f (some (plan s)) = false
-of_update f (some (job j)) = false
-of_update f (some (block ws)) = false
-of_update f (some (update n)) = f n
-of_update f (some (move m)) = false
-of_update f (some (entry e n)) = false
+of_update f None = false
+of_update f (Some (plan s)) = false
+of_update f (Some (job j)) = false
+of_update f (Some (block ws)) = false
+of_update f (Some (update n)) = f n
+of_update f (Some (move m)) = false
+of_update f (Some (entry e n)) = false
 
 -- The same of how many times an entry comes.
 abbrev pub of_run : (ℕ → Bool) → Option Directive → Bool
-of_run f none = false
-of_run f (some (plan s)) = false
-of_run f (some (job j)) = false
-of_run f (some (block ws)) = false
-of_run f (some (update n)) = false
-of_run f (some (move m)) = false
-of_run f (some (entry e n)) = f n
+of_run f None = false
+of_run f (Some (plan s)) = false
+of_run f (Some (job j)) = false
+of_run f (Some (block ws)) = false
+of_run f (Some (update n)) = false
+of_run f (Some (move m)) = false
+of_run f (Some (entry e n)) = f n
 
 -- The fields cannot be read: a wrong count of them, or a bad number.
 abbrev pub unreadable : Option Directive → Bool
-unreadable none = true
-unreadable (some i) = false
+unreadable None = true
+unreadable (Some i) = false
 
 -- The most steps of a run.
 abbrev pub longest_run : ℕ
@@ -188,13 +188,13 @@ most_entries = 4000
 
 -- The 33rd update, the 17th move, the 4,001st single entry: "The n steps count as n entries for the 4,000".
 abbrev pub one_too_many : Draft → Option Directive → Bool
-one_too_many d none = false
-one_too_many d (some (plan s)) = false
-one_too_many d (some (job j)) = false
-one_too_many d (some (block ws)) = false
-one_too_many d (some (update n)) = leb 32 (length d.plan.updates)
-one_too_many d (some (move m)) = leb 16 (length (last_of d.plan.updates))
-one_too_many d (some (entry e n)) = ltb most_entries (d.entries + n)
+one_too_many d None = false
+one_too_many d (Some (plan s)) = false
+one_too_many d (Some (job j)) = false
+one_too_many d (Some (block ws)) = false
+one_too_many d (Some (update n)) = leb 32 (length d.plan.updates)
+one_too_many d (Some (move m)) = leb 16 (length (last_of d.plan.updates))
+one_too_many d (Some (entry e n)) = ltb most_entries (d.entries + n)
 
 -- Whether a line has a fault, after lines that gave the draft d. The rows of the table, in the order of judgement.
 abbrev pub has_fault : Form → Draft → ParsedLine → Fault → Bool

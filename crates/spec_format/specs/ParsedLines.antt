@@ -1,6 +1,6 @@
 -- A line taken apart: its kind, and what it says where its fields can be read. Assumes nothing.
 use Rattle.std.specs.Prelude.{ℕ, Bool, List, [], ◌∷◌, get_or}
-use Rattle.std.proofs.Math.Option.{Option, none, some}
+use Rattle.std.specs.Prelude.{Option, Some, None}
 use Rattle.spec_text.specs.Lines.{Line, fields, numbers}
 use Rattle.spec_format.specs.declared.Kind.{Kind}
 use Rattle.spec_format.specs.declared.Sizes.{Sizes}
@@ -43,7 +43,7 @@ number_count s Kind.Unknown fs = 0
 -- What a line of this kind with these numbers says. A step without n is there once. An unknown kind says nothing.
 abbrev pub directive : Kind → List ℕ → Option Directive
 directive Kind.Plan ns =
-    some
+    Some
     (plan
     (record {
       cards = get_or ns 0 0;
@@ -52,15 +52,15 @@ directive Kind.Plan ns =
       words = get_or ns 3 0;
       copies = get_or ns 4 0;
     }))
-directive Kind.Job ns = some (job (record { card = get_or ns 0 0; priority = get_or ns 1 0 }))
-directive Kind.Block ns = some (block ns)
-directive Kind.Update ns = some (update (get_or ns 0 0))
-directive Kind.Copy ns = some (move (Move.Copy (get_or ns 0 0) (get_or ns 1 0)))
-directive Kind.Set ns = some (move (Move.Set (get_or ns 0 0) (get_or ns 1 0)))
-directive Kind.Add ns = some (move (Move.Add (get_or ns 0 0) (get_or ns 1 0) (get_or ns 2 0)))
-directive Kind.Call ns = some (entry (record { kind = 0; first = get_or ns 0 0; second = get_or ns 1 0 }) 1)
-directive Kind.Step ns = some (entry (record { kind = 1; first = get_or ns 0 0; second = 0 }) (get_or ns 1 1))
-directive Kind.Unknown ns = none
+directive Kind.Job ns = Some (job (record { card = get_or ns 0 0; priority = get_or ns 1 0 }))
+directive Kind.Block ns = Some (block ns)
+directive Kind.Update ns = Some (update (get_or ns 0 0))
+directive Kind.Copy ns = Some (move (Move.Copy (get_or ns 0 0) (get_or ns 1 0)))
+directive Kind.Set ns = Some (move (Move.Set (get_or ns 0 0) (get_or ns 1 0)))
+directive Kind.Add ns = Some (move (Move.Add (get_or ns 0 0) (get_or ns 1 0) (get_or ns 2 0)))
+directive Kind.Call ns = Some (entry (record { kind = 0; first = get_or ns 0 0; second = get_or ns 1 0 }) 1)
+directive Kind.Step ns = Some (entry (record { kind = 1; first = get_or ns 0 0; second = 0 }) (get_or ns 1 1))
+directive Kind.Unknown ns = None
 
 -- The numbers of a line of this kind, from the fields behind the first, where they could be read.
 abbrev pub numbers_for : ℕ → Kind → List (List ℕ) → Option (List ℕ)
@@ -68,8 +68,8 @@ numbers_for s k fs = numbers (number_count s k fs) fs
 
 -- What the numbers of a line say, where they could be read.
 abbrev pub directive_of : Kind → Option (List ℕ) → Option Directive
-directive_of k none = none
-directive_of k (some ns) = directive k ns
+directive_of k None = None
+directive_of k (Some ns) = directive k ns
 
 -- A line taken apart.
 pub record ParsedLine : Type 0 where
@@ -79,7 +79,7 @@ pub record ParsedLine : Type 0 where
 
 -- The kind and what the line says, from its fields, where blocks have s words.
 abbrev pub parsed_from : ℕ → Bool → List (List ℕ) → ParsedLine
-parsed_from s e [] = record { ended = e; kind = Kind.Unknown; directive = none }
+parsed_from s e [] = record { ended = e; kind = Kind.Unknown; directive = None }
 parsed_from s e (f ∷ fs) =
     record { ended = e; kind = kind_of f; directive = directive_of (kind_of f) (numbers_for s (kind_of f) fs) }
 

@@ -1,11 +1,11 @@
 -- What a whole text gives: the plan and the single entries, or the refusal with its number and line. "The first line
 -- with a fault counts", and in it the fault that is judged first. Assumes nothing.
 use Rattle.std.specs.Prelude.{ℕ, ◌+◌, Bool, cond, List, [], ◌∷◌, ◌++◌, ltb, length, replicate}
-use Rattle.std.proofs.Math.Option.{Option, none, some}
+use Rattle.std.specs.Prelude.{Option, Some, None, Result, Ok, Err}
 use Rattle.spec_text.specs.Lines.{Line, lines}
 use Rattle.spec_format.specs.declared.Fault.{Fault}
 use Rattle.spec_format.specs.declared.Form.{Form}
-use Rattle.spec_format.specs.declared.Verdict.{Verdict}
+use Rattle.spec_format.specs.declared.LineFault.{LineFault}
 use Rattle.spec_format.specs.declared.Move.{Move}
 use Rattle.spec_format.specs.Plan.{Plan, Listed}
 use Rattle.spec_format.specs.ParsedLines.{Directive, plan, job, block, update, move, entry, ParsedLine, parsed_of}
@@ -65,8 +65,8 @@ entries_after n (entry e k) = n + k
 
 -- The draft after one more line; a line whose fields cannot be read adds nothing to the plan.
 abbrev pub after : Draft → Option Directive → Draft
-after d none = record { lines = d.lines + 1; blocks = d.blocks; entries = d.entries; plan = d.plan }
-after d (some i) =
+after d None = record { lines = d.lines + 1; blocks = d.blocks; entries = d.entries; plan = d.plan }
+after d (Some i) =
     record {
       lines = d.lines + 1;
       blocks = blocks_after d.blocks i;
@@ -100,8 +100,8 @@ by_rank =
 
 -- The first fault of a list that a line has.
 abbrev pub first_of : (Fault → Bool) → List Fault → Option Fault
-first_of has [] = none
-first_of has (f ∷ fs) = cond (has f) (some f) (first_of has fs)
+first_of has [] = None
+first_of has (f ∷ fs) = cond (has f) (Some f) (first_of has fs)
 
 -- What a reading comes to: a refusal with its line, or a draft in which no line has a fault.
 pub data ReadOutcome : Type 0 where
@@ -110,8 +110,8 @@ pub data ReadOutcome : Type 0 where
 
 -- The refusal by the fault found in this line, or what comes of the rest.
 abbrev pub or_else : Option Fault → ℕ → ReadOutcome → ReadOutcome
-or_else (some f) line rest = refused f line
-or_else none line rest = rest
+or_else (Some f) line rest = refused f line
+or_else None line rest = rest
 
 -- The lines are read in order, after lines that gave the draft d. Where no line is left the text may end, or it ends
 -- too early: 3, one line past the last.
@@ -123,13 +123,13 @@ read_lines form d (l ∷ ls) =
 -- The single entries of a line, each with the line: "A line `step card n` .. shall do what n lines `step card` do", and
 -- "the refusal's line is the line of the run".
 abbrev pub listed : ℕ → Option Directive → List Listed
-listed n none = []
-listed n (some (plan s)) = []
-listed n (some (job j)) = []
-listed n (some (block ws)) = []
-listed n (some (update k)) = []
-listed n (some (move m)) = []
-listed n (some (entry e k)) = replicate k (record { entry = e; line = n })
+listed n None = []
+listed n (Some (plan s)) = []
+listed n (Some (job j)) = []
+listed n (Some (block ws)) = []
+listed n (Some (update k)) = []
+listed n (Some (move m)) = []
+listed n (Some (entry e k)) = replicate k (record { entry = e; line = n })
 
 -- The single entries of lines that are numbered from n on, in order, where blocks have s words.
 abbrev pub entries_of : ℕ → ℕ → List Line → List Listed
@@ -157,6 +157,6 @@ reading form text =
     (given (lines text) (read_lines form blank (lines text)))
 
 -- The answer of a check: the refusal, or the count of all lines.
-abbrev pub verdict_of : Reading → Verdict
-verdict_of (refusal f n) = Verdict.Refused f n
-verdict_of (accepted p es n) = Verdict.Accepted n
+abbrev pub verdict_of : Reading → Result ℕ LineFault
+verdict_of (refusal f n) = Err (record { fault = f; line = n })
+verdict_of (accepted p es n) = Ok n

@@ -6,7 +6,7 @@ use Prim.Native.Nat.{ℕ, ◌+◌}
 use mathlib.Core.Path.{◌≡◌, refl, sym, ◌∙◌, ap, subst}
 use mathlib.Core.Bool.{false, true≢false}
 use mathlib.Core.List.{List, [], ◌∷◌, ◌++◌, foldl, append-nil, append_assoc}
-use mathlib.Core.Option.{Option, none, some}
+use Rattle.std.specs.Prelude.{Option, Some, None}
 use lib.ListN.{length}
 use Rattle.spec_text.proofs.Cases.{some-none}
 use Rattle.spec_format.specs.declared.Entry.{Entry}
@@ -88,7 +88,7 @@ pub record Inv (plan : Plan) (es : List Entry) (r : Run) : Type 0 where
   pub sized : Sized r.machine
   pub proper : (k : ℕ) → Proper ((shared_in plan r.machine).stat k)
   pub layers : Layers plan es r.history (state_in plan r.machine)
-  pub in_step : r.refusal ≡ none → length r.history ≡ length es
+  pub in_step : r.refusal ≡ None → length r.history ≡ length es
 
 -- A place that is not active is Idle.
 inactive : (pl : Place) → is_active pl ≡ false → pl ≡ Place.Idle
@@ -162,7 +162,7 @@ module _ (plan : Plan) (ok : Sound plan) where
     call_kept :
         (j u : ℕ) → CallJudged plan m e j u
         → Inv plan more
-        (record { machine = acted plan m (Judgement.Calls j u); history = h ++ (call_event h j ∷ []); refusal = none })
+        (record { machine = acted plan m (Judgement.Calls j u); history = h ++ (call_event h j ∷ []); refusal = None })
     call_kept j u a =
         record {
           sized = sized-call plan m sized j u;
@@ -235,7 +235,7 @@ module _ (plan : Plan) (ok : Sound plan) where
           Inv plan more (record {
             machine = acted plan m (Judgement.Runs p);
             history = h ++ (item_event h p (work_of m p) (item_of plan m p) ∷ []);
-            refusal = none;
+            refusal = None;
           })
       unfolding acted
       step_kept =
@@ -243,10 +243,10 @@ module _ (plan : Plan) (ok : Sound plan) where
           (record {
             machine = carried_out plan p x m;
             history = h ++ (item_event h p (work_of m p) x ∷ []);
-            refusal = none;
+            refusal = None;
           }))
           (sym (item-seen plan m p a.has-job)) (subst (λ w. Inv plan more
-          (record { machine = carried_out plan p o m; history = h ++ (item_event h p w o ∷ []); refusal = none }))
+          (record { machine = carried_out plan p o m; history = h ++ (item_event h p w o ∷ []); refusal = None }))
           (job-seen plan m p a.has-job) (record {
             sized = sized-after plan ok m sized p a.has-job o fits;
             proper = proper-after plan m sized p o fits proper;
@@ -262,21 +262,21 @@ module _ (plan : Plan) (ok : Sound plan) where
   entry_kept es r e I = go r.refusal refl
     where
       stays :
-          (x : Refusal) (f : Option Refusal) → f ≡ some x
+          (x : Refusal) (f : Option Refusal) → f ≡ Some x
           → Inv plan (es ++ (e ∷ [])) (record { machine = r.machine; history = r.history; refusal = f })
       stays x f q =
           record {
             sized = I.sized;
             proper = I.proper;
             layers = layers-more es r.history (state_in plan r.machine) e I.layers;
-            in_step = λ z. let y : some x ≡ none = sym q ∙ z in absurd (some-none y);
+            in_step = λ z. let y : Some x ≡ None = sym q ∙ z in absurd (some-none y);
           }
 
       go :
           (f : Option Refusal) → r.refusal ≡ f
           → Inv plan (es ++ (e ∷ [])) (unless_refused f r (judged plan r (judge plan r.machine e)))
-      go (some x) q = stays x r.refusal q
-      go none q = by (judge plan r.machine e) refl
+      go (Some x) q = stays x r.refusal q
+      go None q = by (judge plan r.machine e) refl
         where
           len : length r.history ≡ length es
           len = I.in_step q
@@ -288,7 +288,7 @@ module _ (plan : Plan) (ok : Sound plan) where
           by (Judgement.Runs p) z =
               step_kept es r.history r.machine I.sized I.proper I.layers len e p
               (step-judged plan r.machine e p z)
-          by (Judgement.Refused x) z = stays x (some x) refl
+          by (Judgement.Refused x) z = stays x (Some x) refl
 
   -- Some more entries.
   entries-kept : (es fs : List Entry) (r : Run) → Inv plan es r → Inv plan (es ++ fs) (foldl (entered plan) r fs)

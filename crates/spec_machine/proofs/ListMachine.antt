@@ -10,7 +10,7 @@ use Prim.Native.Nat.{ℕ, zero, suc, ◌+◌, ◌*◌, ◌≤◌, ◌<◌}
 use mathlib.Core.Path.{◌≡◌, refl, sym, ◌∙◌, ap, subst}
 use mathlib.Core.Bool.{Bool, true, false, cond, ◌||◌, true≢false, false≢true}
 use mathlib.Core.List.{List, []}
-use mathlib.Core.Option.{Option, none, some}
+use Rattle.std.specs.Prelude.{Option, Some, None}
 use native.Mathlib.Nat.{mul-le-mul, mul-le-mul_right, le_refl}
 use native.Mathlib.Decide.{ℕ_discrete, dec_lt}
 use native.Mathlib.Omega.{arith}
@@ -524,8 +524,8 @@ module _ (plan : Plan) (m : Machine) (card : ℕ) where
 
   -- What is chosen among the first n jobs is the best of them; where nothing is, none is active on the card.
   abbrev Chosen : ℕ → Option ℕ → Type 0
-  Chosen n none = (k : ℕ) → k < n → active_on plan m card k ≡ true → ⊥
-  Chosen n (some p) = Best n p
+  Chosen n None = (k : ℕ) → k < n → active_on plan m card k ≡ true → ⊥
+  Chosen n (Some p) = Best n p
 
   -- One of the first n + 1 jobs is job n or one of the first n.
   newest : {A : Type 0} (n k : ℕ) → k < suc n → (k ≡ n → A) → (k < n → A) → A
@@ -539,9 +539,9 @@ module _ (plan : Plan) (m : Machine) (card : ℕ) where
   chosen-next :
       (n : ℕ) (t : Bool) → active_on plan m card n ≡ t → (q : Option ℕ) → Chosen n q
       → Chosen (suc n) (cond t (higher plan q n) q)
-  chosen-next n false e none c =
+  chosen-next n false e None c =
       λ k h a. newest n k h (λ z. true≢false (sym a ∙ ap (active_on plan m card) z ∙ e)) (λ l. c k l a)
-  chosen-next n false e (some p) c =
+  chosen-next n false e (Some p) c =
       record {
         below = omega (arith, c.below);
         runs = c.runs;
@@ -549,13 +549,13 @@ module _ (plan : Plan) (m : Machine) (card : ℕ) where
             λ k h a.
             newest n k h (λ z. absurd (true≢false (sym a ∙ ap (active_on plan m card) z ∙ e))) (λ l. c.top k l a);
       }
-  chosen-next n true e none c =
+  chosen-next n true e None c =
       record {
         below = omega arith;
         runs = e;
         top = λ k h a. newest n k h (λ z. rw z (le_refl (job_in plan n).priority)) (λ l. absurd (c k l a));
       }
-  chosen-next n true e (some p) c =
+  chosen-next n true e (Some p) c =
       by-test (ltb (job_in plan p).priority (job_in plan n).priority) (λ t. rw t (over t)) (λ t. rw t (under t))
     where
       over : ltb (job_in plan p).priority (job_in plan n).priority ≡ true → Best (suc n) n
@@ -625,8 +625,8 @@ module _ (plan : Plan) (m : Machine) (e : Entry) where
   judged-running :
       eqb e.kind 0 ≡ false → (q : Option ℕ) → Chosen plan m e.first plan.sizes.jobs q
       → Judged (judge_running q)
-  judged-running z none c = tt
-  judged-running z (some p) c =
+  judged-running z None c = tt
+  judged-running z (Some p) c =
       let here : (is_active (work_of m p).place ≡ true) × (eqb (job_in plan p).card e.first ≡ true) =
       both (is_active (work_of m p).place) (eqb (job_in plan p).card e.first) c.runs in
       let own : (job_in plan p).card ≡ e.first = eqb-true (job_in plan p).card e.first here.1 in

@@ -1,7 +1,7 @@
 -- What a `call` and a `step` entry do: "An accepted `call` makes the job active at A1. A `step` does one item for the
 -- active job p of highest priority on card R." A refused entry leaves the state as it was. Assumes nothing.
 use Rattle.std.specs.Prelude.{ℕ, zero, suc, Bool, cond, ◌&&◌, ◌||◌, eqb, ltb, leb, length}
-use Rattle.std.proofs.Math.Option.{Option, none, some}
+use Rattle.std.specs.Prelude.{Option, Some, None}
 use Rattle.spec_format.specs.declared.Entry.{Entry}
 use Rattle.spec_format.specs.Plan.{Plan, job_in}
 use Rattle.spec_machine.specs.declared.Refusal.{Refusal}
@@ -23,13 +23,13 @@ active_on plan m card k = is_active (work_of m k).place && eqb (job_in plan k).c
 
 -- Of the best job so far and job k, where job k may run: the one of higher priority, "the larger running first".
 abbrev pub higher : Plan → Option ℕ → ℕ → Option ℕ
-higher plan none k = some k
-higher plan (some best) k =
-    cond (ltb (job_in plan best).priority (job_in plan k).priority) (some k) (some best)
+higher plan None k = Some k
+higher plan (Some best) k =
+    cond (ltb (job_in plan best).priority (job_in plan k).priority) (Some k) (Some best)
 
 -- The active job of highest priority on a card among the first n jobs, where there is one.
 abbrev pub runs_on : Plan → Machine → ℕ → ℕ → Option ℕ
-runs_on plan m card zero = none
+runs_on plan m card zero = None
 runs_on plan m card (suc n) =
     cond (active_on plan m card n) (higher plan (runs_on plan m card n) n) (runs_on plan m card n)
 
@@ -41,8 +41,8 @@ judge_call plan m job update =
 
 -- A step of a card whose running job is known, or not: 14, no job active on the card.
 abbrev pub judge_running : Option ℕ → Judgement
-judge_running none = Judgement.Refused Refusal.NoneActive
-judge_running (some p) = Judgement.Runs p
+judge_running None = Judgement.Refused Refusal.NoneActive
+judge_running (Some p) = Judgement.Runs p
 
 -- A step is judged: 13, card not below P; then 14.
 abbrev pub judge_step : Plan → Machine → ℕ → Judgement

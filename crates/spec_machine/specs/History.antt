@@ -3,7 +3,7 @@
 -- Assumes nothing.
 use Rattle.std.specs.Prelude.{ℕ, ◌+◌, Bool, true, false, ◌&&◌, eqb, length}
 use mathlib.Core.List.{List, [], ◌∷◌, ◌++◌, foldl, map}
-use Rattle.std.proofs.Math.Option.{Option, none, some}
+use Rattle.std.specs.Prelude.{Option, Some, None}
 use Rattle.spec_format.specs.declared.Entry.{Entry}
 use Rattle.spec_format.specs.Plan.{Plan}
 use Rattle.spec_machine.specs.declared.Place.{Place}
@@ -131,9 +131,9 @@ history_after plan m h (Judgement.Refused r) = h
 
 -- The refusal of an entry that is judged so.
 abbrev pub refusal_in : Judgement → Option Refusal
-refusal_in (Judgement.Calls job update) = none
-refusal_in (Judgement.Runs p) = none
-refusal_in (Judgement.Refused r) = some r
+refusal_in (Judgement.Calls job update) = None
+refusal_in (Judgement.Runs p) = None
+refusal_in (Judgement.Refused r) = Some r
 
 -- A run: the state and the history after some entries, and the refusal that stopped it, where one did.
 pub record Run : Type 0 where
@@ -143,7 +143,7 @@ pub record Run : Type 0 where
 
 -- A run before its first entry.
 unfoldable pub begun : Plan → Run
-begun plan = record { machine = opening_of plan; history = []; refusal = none }
+begun plan = record { machine = opening_of plan; history = []; refusal = None }
 
 -- A run after an entry that is judged so.
 abbrev pub judged : Plan → Run → Judgement → Run
@@ -156,8 +156,8 @@ judged plan r j =
 
 -- The entry runs, unless the run has stopped.
 abbrev pub unless_refused : Option Refusal → Run → Run → Run
-unless_refused none r next = next
-unless_refused (some x) r next = r
+unless_refused None r next = next
+unless_refused (Some x) r next = r
 
 -- A run after one more entry. The first refusal stops it.
 unfoldable pub entered : Plan → Run → Entry → Run

@@ -8,7 +8,7 @@ use native.Mathlib.Omega.{arith}
 use mathlib.Core.Path.{◌≡◌, refl}
 use mathlib.Core.Bool.{true, false}
 use mathlib.Core.List.{List, [], ◌∷◌, map}
-use mathlib.Core.Option.{none, some}
+use Rattle.std.specs.Prelude.{Some, None}
 use lib.Dec.{eqb}
 use lib.ListN.{length, replicate, length-append, length-replicate, length-map}
 use borrow.Author.Tests.{le-ltb, le-leb, eqb-true}
@@ -40,9 +40,9 @@ module _ (plan : Plan) (good : Sound plan) where
       (kind : Kind) (e : Entry) (n k : ℕ) → is_unknown kind ≡ false
       → stands Form.Schedule (counting plan n) kind ≡ laid_out (counting plan n) → 1 ≤ k → n + k ≤ most_entries
       → first_of
-      (has_fault Form.Schedule (counting plan n) (record { ended = true; kind = kind; directive = some (entry e k) }))
+      (has_fault Form.Schedule (counting plan n) (record { ended = true; kind = kind; directive = Some (entry e k) }))
       by_rank
-      ≡ none
+      ≡ None
   entry-clear kind e n k known place some-entry room =
       rw (
         known,

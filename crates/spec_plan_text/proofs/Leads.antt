@@ -9,7 +9,7 @@ use native.Mathlib.Omega.{arith}
 use mathlib.Core.Path.{◌≡◌, refl, sym, ◌∙◌}
 use mathlib.Core.Bool.{true}
 use mathlib.Core.List.{List, [], ◌∷◌, ◌++◌, map, append_assoc, map-append}
-use mathlib.Core.Option.{Option, none, some}
+use Rattle.std.specs.Prelude.{Option, Some, None}
 use lib.ListN.{length, replicate}
 use Rattle.spec_text.specs.Bytes.{bytes}
 use Rattle.spec_text.specs.Decimal.{decimal}
@@ -89,23 +89,23 @@ run-singles e n (suc k) = rw (run-singles e n k)
 
 -- The single entries that a line says, without the line.
 abbrev pub said : Option Directive → List Entry
-said none = []
-said (some (plan s)) = []
-said (some (job j)) = []
-said (some (block ws)) = []
-said (some (update n)) = []
-said (some (move m)) = []
-said (some (entry e n)) = replicate n e
+said None = []
+said (Some (plan s)) = []
+said (Some (job j)) = []
+said (Some (block ws)) = []
+said (Some (update n)) = []
+said (Some (move m)) = []
+said (Some (entry e n)) = replicate n e
 
 -- They are those that are listed in whatever line.
 listed-said : (n : ℕ) (x : Option Directive) → entries_in (listed n x) ≡ said x
-listed-said n none = refl
-listed-said n (some (plan s)) = refl
-listed-said n (some (job j)) = refl
-listed-said n (some (block ws)) = refl
-listed-said n (some (update k)) = refl
-listed-said n (some (move m)) = refl
-listed-said n (some (entry e k)) = run-singles e n k
+listed-said n None = refl
+listed-said n (Some (plan s)) = refl
+listed-said n (Some (job j)) = refl
+listed-said n (Some (block ws)) = refl
+listed-said n (Some (update k)) = refl
+listed-said n (Some (move m)) = refl
+listed-said n (Some (entry e k)) = run-singles e n k
 
 -- The single entries of lines, without their lines, do not depend on the number of the first line.
 pub same_singles : (s m n : ℕ) (ls : List Line) → entries_in (entries_of s m ls) ≡ entries_in (entries_of s n ls)
@@ -151,7 +151,7 @@ joined-leads form (suc n) part at each =
 pub line-leads :
     (form : Form) (d : Draft) (k : Kind) (ns : List ℕ) → AllFit ns
     → number_count d.plan.sizes.words k (map decimal ns) ≡ length ns
-    → first_of (has_fault form d (saying k ns)) by_rank ≡ none
+    → first_of (has_fault form d (saying k ns)) by_rank ≡ None
     → Leads form d (line_of (word_of k) ns) (said (directive k ns)) (numbered 1 (after d (directive k ns)))
 line-leads form d k ns fit many clear =
     let l : Line = written_line (word_of k) (map decimal ns) in

@@ -9,7 +9,7 @@ use native.Mathlib.Nat.{mul-le-mul}
 use mathlib.Core.Path.{◌≡◌, refl, sym}
 use mathlib.Core.Bool.{Bool, true, false, ◌&&◌, ◌||◌}
 use mathlib.Core.List.{List, [], ◌∷◌, ◌++◌}
-use mathlib.Core.Option.{none, some}
+use Rattle.std.specs.Prelude.{Some, None}
 use lib.Dec.{ltb, leb, eqb}
 use lib.ListN.{length, get_or, take, drop, length-append, length-take, length-drop, take-append-drop}
 use lib.Seq.{take-suc, take_all, take-length, length-take-le, get_or-take, take-add}
@@ -147,7 +147,7 @@ move-clear :
     → ltb d.plan.sizes.copies
     (length (blocks_written d.plan.sizes.words (last_of d.plan.updates ++ (m ∷ []))))
     ≡ false
-    → first_of (has_fault form d (saying (move_kind m) (move_numbers m))) by_rank ≡ none
+    → first_of (has_fault form d (saying (move_kind m) (move_numbers m))) by_rank ≡ None
 move-clear form d (Move.Copy x a) stands few inside blocks = rw (stands, few, inside, blocks)
 move-clear form d (Move.Set x k) stands few inside blocks = rw (stands, few, inside, blocks)
 move-clear form d (Move.Add x a k) stands few inside blocks = rw (stands, few, inside, blocks)
@@ -155,8 +155,8 @@ move-clear form d (Move.Add x a k) stands few inside blocks = rw (stands, few, i
 -- A move's line without a fault adds the move to the last update.
 move-line-leads :
     (form : Form) (d : Draft) (m : Move) → AllFit (move_numbers m)
-    → first_of (has_fault form d (saying (move_kind m) (move_numbers m))) by_rank ≡ none
-    → Leads form d (move_line m) [] (numbered 1 (after d (some (move m))))
+    → first_of (has_fault form d (saying (move_kind m) (move_numbers m))) by_rank ≡ None
+    → Leads form d (move_line m) [] (numbered 1 (after d (Some (move m))))
 move-line-leads form d (Move.Copy x a) fit clear = line-leads form d Kind.Copy (x ∷ a ∷ []) fit refl clear
 move-line-leads form d (Move.Set x k) fit clear = line-leads form d Kind.Set (x ∷ k ∷ []) fit refl clear
 move-line-leads form d (Move.Add x a k) fit clear = line-leads form d Kind.Add (x ∷ a ∷ k ∷ []) fit refl clear

@@ -4,7 +4,7 @@ use Prim.Native.Nat.{ℕ, zero, suc, ◌+◌}
 use mathlib.Core.Path.{◌≡◌, refl}
 use mathlib.Core.Logic.{◌⊎◌, inl, inr}
 use mathlib.Core.List.{List, [], ◌∷◌, ◌++◌, map}
-use mathlib.Core.Option.{Option, none, some}
+use Rattle.std.specs.Prelude.{Option, Some, None}
 use lib.ListN.{get_or, replicate}
 use Rattle.spec_text.specs.Lines.{Line, fields, lines}
 use Rattle.spec_format.specs.declared.Kind.{Kind}
@@ -41,19 +41,19 @@ plain-append (l ∷ ls) ms one other =
 
 -- The entries of what a line of a kind with its numbers says,
 plain-said : (n : ℕ) (k : Kind) (o : Option (List ℕ)) → Plain (listed n (directive_of k o))
-plain-said n k none = (tt, refl)
-plain-said n Kind.Plan (some ns) = (tt, refl)
-plain-said n Kind.Job (some ns) = (tt, refl)
-plain-said n Kind.Block (some ns) = (tt, refl)
-plain-said n Kind.Update (some ns) = (tt, refl)
-plain-said n Kind.Copy (some ns) = (tt, refl)
-plain-said n Kind.Set (some ns) = (tt, refl)
-plain-said n Kind.Add (some ns) = (tt, refl)
-plain-said n Kind.Call (some ns) = ((inl refl, tt), refl)
-plain-said n Kind.Step (some ns) =
+plain-said n k None = (tt, refl)
+plain-said n Kind.Plan (Some ns) = (tt, refl)
+plain-said n Kind.Job (Some ns) = (tt, refl)
+plain-said n Kind.Block (Some ns) = (tt, refl)
+plain-said n Kind.Update (Some ns) = (tt, refl)
+plain-said n Kind.Copy (Some ns) = (tt, refl)
+plain-said n Kind.Set (Some ns) = (tt, refl)
+plain-said n Kind.Add (Some ns) = (tt, refl)
+plain-said n Kind.Call (Some ns) = ((inl refl, tt), refl)
+plain-said n Kind.Step (Some ns) =
     plain-times (get_or ns 1 1) (record { entry = record { kind = 1; first = get_or ns 0 0; second = 0 }; line = n })
     (inr refl) refl
-plain-said n Kind.Unknown (some ns) = (tt, refl)
+plain-said n Kind.Unknown (Some ns) = (tt, refl)
 
 -- by its fields,
 plain-fields : (s n : ℕ) (l : Line) (fs : List (List ℕ)) → Plain (listed n (parsed_from s l.ended fs).directive)

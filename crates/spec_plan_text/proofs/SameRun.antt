@@ -12,7 +12,7 @@ use mathlib.Core.Path.{◌≡◌, refl, sym, ◌∙◌, ap}
 use mathlib.Core.Logic.{◌⊎◌, inl, inr}
 use mathlib.Core.Bool.{true, false, false≢true, ◌||◌}
 use mathlib.Core.List.{List, [], ◌∷◌, ◌++◌, map, foldl}
-use mathlib.Core.Option.{Option, none, some}
+use Rattle.std.specs.Prelude.{Option, Some, None}
 use native.Mathlib.Omega.{arith}
 use borrow.Author.Tests.{eqb-true, eq-eqb, not-true, not-false, leb-false, ltb-true, ltb-false}
 use lib.Dec.{eqb, leb, ltb}
@@ -55,12 +55,12 @@ known-kind e h =
     (λ t. inr (eqb-true e.kind 1 (rw t at (not-false (eqb e.kind 0 || eqb e.kind 1) h))))
 
 -- Among calls and steps there is no record of another kind.
-pub no-others : (n : ℕ) (es : List Entry) → KnownKinds es → other_from n es ≡ none
+pub no-others : (n : ℕ) (es : List Entry) → KnownKinds es → other_from n es ≡ None
 no-others n [] known = refl
 no-others n (e ∷ es) known = rw (not-other e known.0) (no-others (n + 1) es known.1)
 
 -- Where there is no record of another kind, all are calls and steps.
-pub known-kinds : (n : ℕ) (es : List Entry) → other_from n es ≡ none → KnownKinds es
+pub known-kinds : (n : ℕ) (es : List Entry) → other_from n es ≡ None → KnownKinds es
 known-kinds n [] no_other = tt
 known-kinds n (e ∷ es) no_other =
     by-test (is_other e)
@@ -91,27 +91,27 @@ plain-run plan es = plain-on plan (begun plan) es
 
 -- Where a run is not refused after an entry, it was not before, and the entry is not refused.
 entry-accepted :
-    (plan : Plan) (r : Run) (e : Entry) → (entered plan r e).refusal ≡ none
-    → (r.refusal ≡ none) × (refusal_in (judge plan r.machine e) ≡ none)
+    (plan : Plan) (r : Run) (e : Entry) → (entered plan r e).refusal ≡ None
+    → (r.refusal ≡ None) × (refusal_in (judge plan r.machine e) ≡ None)
 unfolding entered
 entry-accepted plan r e h = go r.refusal refl h
   where
     go :
         (f : Option Refusal) → r.refusal ≡ f
-        → (unless_refused f r (judged plan r (judge plan r.machine e))).refusal ≡ none
-        → (r.refusal ≡ none) × (refusal_in (judge plan r.machine e) ≡ none)
-    go none q z = (q, z)
-    go (some x) q z = absurd (some-none (sym q ∙ z))
+        → (unless_refused f r (judged plan r (judge plan r.machine e))).refusal ≡ None
+        → (r.refusal ≡ None) × (refusal_in (judge plan r.machine e) ≡ None)
+    go None q z = (q, z)
+    go (Some x) q z = absurd (some-none (sym q ∙ z))
 
 -- Where a run is not refused after some entries, it was not before.
 still-accepted :
-    (plan : Plan) (r : Run) (es : List Entry) → (foldl (entered plan) r es).refusal ≡ none → r.refusal ≡ none
+    (plan : Plan) (r : Run) (es : List Entry) → (foldl (entered plan) r es).refusal ≡ None → r.refusal ≡ None
 still-accepted plan r [] h = h
 still-accepted plan r (e ∷ es) h = (entry-accepted plan r e (still-accepted plan (entered plan r e) es h)).0
 
 -- A call or a step that is not refused is one that the plan can run.
 judged-runnable :
-    (plan : Plan) (m : Machine) (e : Entry) → (e.kind ≡ 0) ⊎ (e.kind ≡ 1) → refusal_in (judge plan m e) ≡ none
+    (plan : Plan) (m : Machine) (e : Entry) → (e.kind ≡ 0) ⊎ (e.kind ≡ 1) → refusal_in (judge plan m e) ≡ None
     → Runnable plan e
 unfolding judge
 judged-runnable plan m e (inl z) h =
@@ -127,7 +127,7 @@ judged-runnable plan m e (inr z) h =
 
 -- The entries of a run that goes on and is not refused are those that the plan can run.
 runnable-on :
-    (plan : Plan) (r : Run) (es : List Entry) → KnownKinds es → (foldl (entered plan) r es).refusal ≡ none
+    (plan : Plan) (r : Run) (es : List Entry) → KnownKinds es → (foldl (entered plan) r es).refusal ≡ None
     → AllRunnable plan es
 runnable-on plan r [] known h = tt
 runnable-on plan r (e ∷ es) known h =
@@ -136,7 +136,7 @@ runnable-on plan r (e ∷ es) known h =
 
 -- The entries of a run that is not refused are those that the plan can run.
 pub run-runnable :
-    (plan : Plan) (es : List Entry) → other_from 1 es ≡ none → (run_of plan es).refusal ≡ none → AllRunnable plan es
+    (plan : Plan) (es : List Entry) → other_from 1 es ≡ None → (run_of plan es).refusal ≡ None → AllRunnable plan es
 unfolding run_of
 run-runnable plan es no_other h = runnable-on plan (begun plan) es (known-kinds 1 es no_other) h
 
@@ -185,14 +185,14 @@ one_more es [] c all one = (one, tt)
 one_more es (d ∷ cs) c all one = (all.0, one_more es cs c all.1 one)
 
 -- The first entry of a run that is not refused is a call.
-first-call : (plan : Plan) (es : List Entry) → (run_of plan es).refusal ≡ none → CallAt es 0
+first-call : (plan : Plan) (es : List Entry) → (run_of plan es).refusal ≡ None → CallAt es 0
 unfolding run_of begun
 first-call plan [] h = refl
 first-call plan (e ∷ es) h =
     go (judge plan (opening_of plan) e) refl
     (entry-accepted plan (begun plan) e (still-accepted plan (entered plan (begun plan) e) es h)).1
   where
-    go : (j : Judgement) → judge plan (opening_of plan) e ≡ j → refusal_in j ≡ none → e.kind ≡ 0
+    go : (j : Judgement) → judge plan (opening_of plan) e ≡ j → refusal_in j ≡ None → e.kind ≡ 0
     go (Judgement.Calls job update) z a = (call-judged plan (opening_of plan) e job update z).kind
     go (Judgement.Runs p) z a =
         absurd (false≢true (rw (idle-opening plan p) at (runs-active plan (opening_of plan) e p z)))
@@ -236,7 +236,7 @@ module _ (plan : Plan) (es : List Entry) where
   -- One more entry that is not refused: one more event.
   entry_known :
       (r : Run) (e : Entry) → CallsKnown es r.history → entry_at es (length r.history + 1) ≡ e
-      → (entered plan r e).refusal ≡ none
+      → (entered plan r e).refusal ≡ None
       → (length (entered plan r e).history ≡ length r.history + 1) × CallsKnown es (entered plan r e).history
   unfolding entered
   entry_known r e C here accepted =
@@ -244,7 +244,7 @@ module _ (plan : Plan) (es : List Entry) where
       rw h.0 (by (judge plan r.machine e) refl h.1)
     where
       by :
-          (j : Judgement) → judge plan r.machine e ≡ j → refusal_in j ≡ none
+          (j : Judgement) → judge plan r.machine e ≡ j → refusal_in j ≡ None
           → (length (judged plan r j).history ≡ length r.history + 1) × CallsKnown es (judged plan r j).history
       by (Judgement.Calls job update) z a = (
         length_last r.history (call_event r.history job),
@@ -267,7 +267,7 @@ module _ (plan : Plan) (es : List Entry) where
   known_on :
       (rest : List Entry) (r : Run)
       → ((i : ℕ) → get_or es (length r.history + i) no_entry ≡ get_or rest i no_entry)
-      → CallsKnown es r.history → (foldl (entered plan) r rest).refusal ≡ none
+      → CallsKnown es r.history → (foldl (entered plan) r rest).refusal ≡ None
       → CallsKnown es (foldl (entered plan) r rest).history
   known_on [] r behind C accepted = C
   known_on (e ∷ rest) r behind C accepted =
@@ -277,7 +277,7 @@ module _ (plan : Plan) (es : List Entry) where
       (λ i. ap (λ n. get_or es n no_entry) (omega (arith, next.0)) ∙ behind (suc i)) next.1 accepted
 
   -- The calls that a run commits which is not refused are calls.
-  run-known : (run_of plan es).refusal ≡ none → CallsAt es (commits_in (run_of plan es).history)
+  run-known : (run_of plan es).refusal ≡ None → CallsAt es (commits_in (run_of plan es).history)
   unfolding run_of begun
   run-known accepted =
       (known_on es (begun plan) (λ i. ap (λ n. get_or es n no_entry) (omega arith))
@@ -301,7 +301,7 @@ same-commits es (c ∷ cs) all =
 
 -- The unused number of a step matters to no report of a run that is not refused.
 pub plain-report :
-    (plan : Plan) (es : List Entry) (e : End) → (run_of plan es).refusal ≡ none
+    (plan : Plan) (es : List Entry) (e : End) → (run_of plan es).refusal ≡ None
     → report plan (map plain es) (run_of plan (map plain es)) e ≡ report plan es (run_of plan es) e
 unfolding report
 plain-report plan es e accepted =

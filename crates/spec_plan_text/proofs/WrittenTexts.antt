@@ -12,7 +12,7 @@ use Prim.Native.Nat.{ℕ, ◌+◌, ◌≤◌}
 use mathlib.Core.Path.{◌≡◌, refl, sym, ◌∙◌, ap}
 use mathlib.Core.Logic.{◌↔◌}
 use mathlib.Core.List.{List, [], ◌++◌, map}
-use mathlib.Core.Option.{Option, none, some}
+use Rattle.std.specs.Prelude.{Option, Some, None}
 use native.Mathlib.Omega.{arith}
 use borrow.Author.Tests.{ltb-false}
 use lib.Dec.{ltb}
@@ -95,8 +95,8 @@ text-refuses (accepted plan ls n) = tt
 
 -- nor what records are, where one is of another kind,
 other-refuses : (x : Option ℕ) (o : Outcome) → Refuses o → Refuses (unless_other x o)
-other-refuses none o h = h
-other-refuses (some place) o h = tt
+other-refuses None o h = h
+other-refuses (Some place) o h = tt
 
 -- nor what a plan's text is with a schedule of records.
 schedule-refuses : (r : Reading) (es : List Entry) → Refuses (of_records r es)
@@ -118,7 +118,7 @@ schedule-follows text es = follows (run_schedule text es) _ (schedule-refuses (r
 
 -- Where a run is not refused, what its entries come to is an acceptance with its report.
 accepted-run :
-    (plan : Plan) (es : List Entry) (line : ℕ → ℕ) (n : ℕ) → (run_of plan es).refusal ≡ none
+    (plan : Plan) (es : List Entry) (line : ℕ → ℕ) (n : ℕ) → (run_of plan es).refusal ≡ None
     → run_outcome plan es line n ≡ written (End.Accepted n) (report plan es (run_of plan es) (End.Accepted n))
 accepted-run plan es line n accepts = rw accepts
 
@@ -126,16 +126,16 @@ accepted-run plan es line n accepts = rw accepts
 ran :
     (plan : Plan) (es : List Entry) (line : ℕ → ℕ) (count : ℕ) (text out : List ℕ) (n : ℕ)
     → after_run (run_outcome plan es line count) text ≡ written (End.Accepted n) out
-    → ((run_of plan es).refusal ≡ none) × (count ≡ n) × (text ≡ out)
+    → ((run_of plan es).refusal ≡ None) × (count ≡ n) × (text ≡ out)
 ran plan es line count text out n = go (run_of plan es).refusal _ _
   where
     go :
         (x : Option Refusal) (i l : ℕ) → written_at (end_of x i l count) text ≡ written (End.Accepted n) out
-        → (x ≡ none) × (count ≡ n) × (text ≡ out)
-    go none i l e = (refl, cc, cc)
-    go (some r) i l e = absurd (not-both e)
+        → (x ≡ None) × (count ≡ n) × (text ≡ out)
+    go None i l e = (refl, cc, cc)
+    go (Some r) i l e = absurd (not-both e)
 
-module _ (plan : Plan) (es : List Entry) (accepts : (run_of plan es).refusal ≡ none) where
+module _ (plan : Plan) (es : List Entry) (accepts : (run_of plan es).refusal ≡ None) where
   -- An accepted run's report: what stands before `end`, and `end`.
   report-parted :
       (line : ℕ → ℕ) (n : ℕ)
@@ -151,7 +151,7 @@ module _ (plan : Plan) (es : List Entry) (accepts : (run_of plan es).refusal ≡
       → run_outcome plan (map plain es) line n
       ≡ written (End.Accepted n) (before_end plan es (run_of plan es) ++ report_end (End.Accepted n))
   plain-parted line n =
-      let same : (run_of plan (map plain es)).refusal ≡ none = rw (plain-run plan es) accepts in
+      let same : (run_of plan (map plain es)).refusal ≡ None = rw (plain-run plan es) accepts in
       accepted-run plan (map plain es) line n same
       ∙ ap (written (End.Accepted n)) (plain-report plan es (End.Accepted n) accepts)
       ∙ ap (written (End.Accepted n)) (report-parts plan es (run_of plan es) (End.Accepted n))
@@ -240,11 +240,11 @@ schedule-written text es out n = go (reading Form.PlanAlone text) refl
         ≡ written (End.Accepted n) out
         → (n ≡ length es)
         × WrittenFrom plan (map plain es) (unless_other x (run_outcome plan es (λ i. i + 1) (length es))) n out
-    by-kinds plan good fits few none no_other e =
+    by-kinds plan good fits few None no_other e =
         let so =
         written_after plan es good fits (known-kinds 1 es no_other) few (λ i. i + 1) (length es) out n e in
         (sym so.0, so.1)
-    by-kinds plan good fits few (some place) other e = absurd (not-both e)
+    by-kinds plan good fits few (Some place) other e = absurd (not-both e)
 
     go :
         (r : Reading) → reading Form.PlanAlone text ≡ r
@@ -302,7 +302,7 @@ one-text one other out n writes = (
       let fs = entries_in s.other_listed in
       let so = ran s.plan es (line_in s.listed) s.lines (text_of s.plan es) out n
       (sym (write-accepted one s.plan s.listed s.lines s.one_read) ∙ writes) in
-      let accepts : (run_of s.plan fs).refusal ≡ none = rw s.same_entries at so.0 in
+      let accepts : (run_of s.plan fs).refusal ≡ None = rw s.same_entries at so.0 in
       let text : text_of s.plan fs ≡ out = rw s.same_entries at so.2 in (
         s.other_lines,
         write-accepted other s.plan s.other_listed s.other_lines s.other_read ∙ rw (accepts, text),

@@ -17,7 +17,7 @@ use mathlib.Core.Path.{◌≡◌, refl, sym, ◌∙◌, ap, subst}
 use mathlib.Core.Logic.{◌≢◌}
 use mathlib.Core.Bool.{true, true≢false, false≢true}
 use mathlib.Core.List.{List, [], ◌∷◌, ◌++◌, append-nil, append_assoc, foldl-append}
-use mathlib.Core.Option.{Option, none, some}
+use Rattle.std.specs.Prelude.{Option, Some, None}
 use native.Mathlib.Decide.{dec_lt}
 use native.Mathlib.Omega.{arith}
 use lib.IntN.{ℤ, pos, negsuc}
@@ -226,12 +226,12 @@ module _ (plan : Plan) (ok : Sound plan) where
         call-named more =
             let on = helped-active in
             let told = A.layers.told in
-            let some : latest w.hid r.history ≢ 0 = told.has-call w.hid on in
+            let Some : latest w.hid r.history ≢ 0 = told.has-call w.hid on in
             let few : latest w.hid r.history ≤ length r.history = told.latest-in w.hid in
             let short : length r.history ≤ length es = told.short in
             let same-entry =
             entry-within es more (latest w.hid r.history) (omega arith) (omega arith) in (
-              ap (λ (x : Entry). x.first) same-entry ∙ told.job-of w.hid some,
+              ap (λ (x : Entry). x.first) same-entry ∙ told.job-of w.hid Some,
               ap (λ (x : Entry). x.second) same-entry
                   ∙ told.update-of w.hid on
                   ∙ ap (λ (x : Working). x.update) (job-seen plan m w.hid (A.layers.cards.whole.in-plan _ on)),
@@ -268,8 +268,8 @@ module _ (plan : Plan) (ok : Sound plan) where
           (f : Option Refusal)
           → Bounded plan (length es + 1)
           (unless_refused f r (judged plan r (judge plan r.machine e))).machine
-      go (some x) = stays
-      go none = by (judge plan r.machine e) refl
+      go (Some x) = stays
+      go None = by (judge plan r.machine e) refl
 
   -- One more entry, from the opening.
   next-bounded :

@@ -3,7 +3,7 @@
 use Prim.Native.Nat.{ℕ, ◌+◌, ◌≤◌}
 use mathlib.Core.Path.{◌≡◌, ◌∙◌, ap, subst}
 use mathlib.Core.List.{List}
-use mathlib.Core.Option.{none}
+use Rattle.std.specs.Prelude.{None}
 use borrow.Author.Tests.{le-ltb}
 use lib.ListN.{length}
 use lib.Seq.{take-length}
@@ -56,7 +56,7 @@ report-backed text plan listed n read =
 -- of records that runs beside an accepted plan's text is backed.
 pub schedule-backed :
     (text : List ℕ) (plan : Plan) (listed : List Listed) (n : ℕ) → reading Form.PlanAlone text ≡ accepted plan listed n
-    → (es : List Entry) → length es ≤ most_entries → other_from 1 es ≡ none
+    → (es : List Entry) → length es ≤ most_entries → other_from 1 es ≡ None
     → Backed plan es (λ i. i + 1) (length es) (run_schedule text es)
 unfolding run_schedule
 schedule-backed text plan listed n read es few no_other =

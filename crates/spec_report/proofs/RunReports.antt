@@ -7,7 +7,7 @@ use native.Mathlib.Omega.{arith}
 use mathlib.Core.Path.{◌≡◌, refl, ◌∙◌, ap}
 use mathlib.Core.Bool.{true}
 use mathlib.Core.List.{List, [], ◌∷◌, ◌++◌, map, map-map, append_assoc}
-use mathlib.Core.Option.{Option, none, some}
+use Rattle.std.specs.Prelude.{Option, Some, None}
 use lib.ListN.{length}
 use borrow.Author.Tests.{lt-ltb}
 use Rattle.spec_text.specs.Numbers.{largest}
@@ -44,8 +44,8 @@ ends-alike :
     → (end_number (end_of x i a k) ≡ end_number (end_of x i b m))
     × (end_entry (end_of x i a k) ≡ end_entry (end_of x i b m))
     × (end_line (end_of x i a k) ≡ line (end_line (end_of x i b m)))
-ends-alike line none i a b k m e f = (refl, refl, f)
-ends-alike line (some r) i a b k m e f = (refl, refl, e)
+ends-alike line None i a b k m e f = (refl, refl, f)
+ends-alike line (Some r) i a b k m e f = (refl, refl, e)
 
 -- One run is reported alike, however the lines of its entries are numbered.
 outcomes-alike :

@@ -1,7 +1,7 @@
 -- What the two ways in give: a text with its schedule, or a plan's text with a schedule of records; and what is left in
 -- the lent buffer and handed back. Assumes nothing.
 use Rattle.std.specs.Prelude.{ℕ, ◌+◌, Bool, cond, not, ◌||◌, List, [], ◌∷◌, map, eqb, ltb, leb, length, get_or}
-use Rattle.std.proofs.Math.Option.{Option, none, some}
+use Rattle.std.specs.Prelude.{Option, Some, None}
 use Rattle.spec_text.specs.FirstPlaces.{in_first_places}
 use Rattle.spec_format.specs.declared.Entry.{Entry}
 use Rattle.spec_format.specs.declared.Fault.{Fault}
@@ -22,8 +22,8 @@ pub data Outcome : Type 0 where
 
 -- How a run ends: by the refusal that stopped it, with the entry's number and line, or accepted with a count.
 abbrev pub end_of : Option Refusal → ℕ → ℕ → ℕ → End
-end_of none entry line count = End.Accepted count
-end_of (some r) entry line count = End.Refused r entry line
+end_of None entry line count = End.Accepted count
+end_of (Some r) entry line count = End.Refused r entry line
 
 -- How a run of entries ends. Entry i, from 0, stands in line `line i`; acceptance gives `count`.
 abbrev pub end_of_run : Run → (ℕ → ℕ) → ℕ → End
@@ -56,13 +56,13 @@ is_other e = not (eqb e.kind 0 || eqb e.kind 1)
 
 -- The place, from n on, of the first record of another kind, where there is one.
 abbrev pub other_from : ℕ → List Entry → Option ℕ
-other_from n [] = none
-other_from n (e ∷ es) = cond (is_other e) (some n) (other_from (n + 1) es)
+other_from n [] = None
+other_from n (e ∷ es) = cond (is_other e) (Some n) (other_from (n + 1) es)
 
 -- The records run, unless one is of another kind.
 abbrev pub unless_other : Option ℕ → Outcome → Outcome
-unless_other none o = o
-unless_other (some place) o = refused (End.Faulty Fault.Misplaced place)
+unless_other None o = o
+unless_other (Some place) o = refused (End.Faulty Fault.Misplaced place)
 
 -- "After the text's check and before any runs, over 4,000 records give 5 at place 4,001, else the first record of
 -- another kind gives 3 ..; these and 11 to 14 give the record's place from 1 as their line, and acceptance gives their

@@ -11,7 +11,7 @@ use mathlib.Core.Path.{◌≡◌, refl, sym, ◌∙◌, ap, subst}
 use mathlib.Core.Logic.{◌≢◌, inl}
 use mathlib.Core.Bool.{true, false, true≢false}
 use mathlib.Core.List.{List, [], ◌∷◌, ◌++◌, append-nil, append_assoc, foldl-append}
-use mathlib.Core.Option.{Option, none, some}
+use Rattle.std.specs.Prelude.{Option, Some, None}
 use native.Mathlib.Omega.{arith}
 use borrow.Author.Tests.{eq-eqb, not-true}
 use lib.Dec.{eqb}
@@ -180,8 +180,8 @@ module _ (plan : Plan) where
             → Inv plan (es ++ (e ∷ [])) (unless_refused f r (judged plan r (judge plan r.machine e)))
             → CallsInPlan (es ++ (e ∷ []))
             (unless_refused f r (judged plan r (judge plan r.machine e))).history
-        go (some x) q after = stays es e r.history C
-        go none q after = by (judge plan r.machine e) refl (A.in_step q) after
+        go (Some x) q after = stays es e r.history C
+        go None q after = by (judge plan r.machine e) refl (A.in_step q) after
 
     -- One more entry, from the opening.
     next-in-plan :

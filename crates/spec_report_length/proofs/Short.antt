@@ -11,7 +11,7 @@
 use Prim.Native.Nat.{ℕ, ◌+◌, ◌*◌, ◌≤◌, ◌<◌}
 use mathlib.Core.Path.{◌≡◌, refl}
 use mathlib.Core.List.{List, [], ◌∷◌, ◌++◌}
-use mathlib.Core.Option.{Option, none, some}
+use Rattle.std.specs.Prelude.{Option, Some, None}
 use native.Mathlib.Omega.{arith}
 use borrow.Author.Tests.{ltb-false}
 use lib.Dec.{ltb}
@@ -183,8 +183,8 @@ printed-short text = go (reading Form.Schedule text) refl
 
 -- A place, where there is one, is at most m.
 abbrev LowPlace : ℕ → Option ℕ → Type 0
-LowPlace m none = Unit {0}
-LowPlace m (some place) = place ≤ m
+LowPlace m None = Unit {0}
+LowPlace m (Some place) = place ≤ m
 
 -- The first record of another kind is one of the records.
 other-low : (n : ℕ) (es : List Entry) (m : ℕ) → n + length es ≤ m + 1 → LowPlace m (other_from n es)
@@ -196,8 +196,8 @@ other-low n (e ∷ es) m h =
 unless-short :
     (x : Option ℕ) (o : Outcome) → LowPlace 65537 x → length (printed o) ≤ longest_report
     → length (printed (unless_other x o)) ≤ longest_report
-unless-short none o h short = short
-unless-short (some place) o h short = refused-short Fault.Misplaced place h
+unless-short None o h short = short
+unless-short (Some place) o h short = refused-short Fault.Misplaced place h
 
 -- What a plan's text prints with a schedule of records is short.
 pub schedule-short : (text : List ℕ) (es : List Entry) → length (printed (run_schedule text es)) ≤ longest_report

@@ -3,7 +3,7 @@
 use Prim.Native.Nat.{ℕ, ◌<◌}
 use mathlib.Core.Path.{◌≡◌, refl, sym, ◌∙◌}
 use mathlib.Core.Bool.{Bool, true, false, ◌&&◌, ◌||◌, false≢true}
-use mathlib.Core.Option.{some, none}
+use Rattle.std.specs.Prelude.{Some, None}
 use native.Mathlib.Omega.{arith}
 use borrow.Author.Tests.{lt-ltb, ltb-true}
 use lib.Dec.{ltb}
@@ -33,5 +33,5 @@ neither true b e = absurd (false≢true (sym e))
 neither false b e = (refl, e)
 
 -- Something is not nothing.
-pub some-none : {A : Type 0} {x : A} → some x ≡ none → ⊥
+pub some-none : {A : Type 0} {x : A} → Some x ≡ None → ⊥
 some-none e = let z : ◌≡◌ {A = ℕ} 0 1 = cc in omega arith

@@ -11,7 +11,7 @@ use lib.Dec.{ltb, leb, eqb}
 use Rattle.spec_text.proofs.Cases.{by-test}
 use Rattle.spec_text.specs.Numbers.{all_digits, leads, value, largest, number}
 use Rattle.spec_text.specs.Decimal.{digits, decimal}
-use Rattle.spec_text.specs.declared.Number.{Number}
+use Rattle.std.specs.Prelude.{Some, None}
 
 -- More digits are worth no less.
 pub value-le : (n : ℕ) (s : List ℕ) → n ≤ value n s
@@ -133,7 +133,7 @@ written-digits (suc k) n (b ∷ s) w h =
     rw (t, r.2, written-digits k (n / 10) r.0 p.0 (omega arith), p.1))
 
 -- What a field holds is not too large, and the field is its decimal form.
-number-reads : (s : List ℕ) (n : ℕ) → number s ≡ Number.Value n → (n ≤ largest) × (s ≡ decimal n)
+number-reads : (s : List ℕ) (n : ℕ) → number s ≡ Some n → (n ≤ largest) × (s ≡ decimal n)
 unfolding number decimal
 number-reads s n e =
     by-test ((leads s && all_digits s) && leb (value 0 s) largest)
@@ -148,12 +148,12 @@ number-reads s n e =
     (λ t. let e' = rw t at e in absurd (let z : ◌≡◌ {A = ℕ} 0 1 = cc in omega arith))
 
 -- The decimal form of a number that is not too large holds it.
-number-writes : (n : ℕ) → n ≤ largest → number (decimal n) ≡ Number.Value n
+number-writes : (n : ℕ) → n ≤ largest → number (decimal n) ≡ Some n
 unfolding number decimal
 number-writes n h =
     let w = digits-written 9 n (omega arith) in
     rw (w.leading, w.digital, w.worth, le-leb n largest h)
 
 -- A field holds a number just where it is the number's digits, and the number is not too large.
-pub number-decimal : (s : List ℕ) (n : ℕ) → (number s ≡ Number.Value n) ↔ ((n ≤ largest) × (s ≡ decimal n))
+pub number-decimal : (s : List ℕ) (n : ℕ) → (number s ≡ Some n) ↔ ((n ≤ largest) × (s ≡ decimal n))
 number-decimal s n = (number-reads s n, λ p. rw p.1 (number-writes n p.0))

@@ -6,7 +6,7 @@ use Prim.Native.Nat.{ℕ, zero, suc, ◌+◌, ◌/◌, ◌%◌, ◌≤◌, ◌<�
 use mathlib.Core.Path.{◌≡◌, refl}
 use mathlib.Core.Bool.{Bool, true, not, ◌&&◌}
 use mathlib.Core.List.{List, [], ◌∷◌, ◌++◌, map, append-nil, append_assoc}
-use mathlib.Core.Option.{some}
+use Rattle.std.specs.Prelude.{Some}
 use native.Mathlib.Omega.{arith}
 use borrow.Author.Tests.{eq-eqb, ne_eqb, not-true}
 use lib.Dec.{ltb, eqb}
@@ -101,7 +101,7 @@ decimals-plain (n ∷ ns) = (
 )
 
 -- and those of such numbers are read to the numbers.
-pub numbers-written : (ns : List ℕ) → AllFit ns → numbers (length ns) (map decimal ns) ≡ some ns
+pub numbers-written : (ns : List ℕ) → AllFit ns → numbers (length ns) (map decimal ns) ≡ Some ns
 numbers-written [] fit = refl
 numbers-written (n ∷ ns) fit =
     rw ((number-decimal (decimal n) n).1 (fit.0, refl), numbers-written ns fit.1)

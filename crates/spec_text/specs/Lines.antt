@@ -1,9 +1,8 @@
 -- The lines of a text and the fields of a line: "One record a line, fields parted by one tab, each line ended by a
 -- line feed." Assumes nothing.
 use Rattle.std.specs.Prelude.{ℕ, zero, suc, Bool, true, false, cond, List, [], ◌∷◌, eqb}
-use Rattle.std.proofs.Math.Option.{Option, none, some}
+use Rattle.std.specs.Prelude.{Option, Some, None}
 use Rattle.spec_text.specs.Numbers.{number}
-use Rattle.spec_text.specs.declared.Number.{Number}
 
 -- Bytes with a byte in front of the first part.
 abbrev pub in_front : ℕ → List (List ℕ) → List (List ℕ)
@@ -40,14 +39,14 @@ unfoldable pub lines : List ℕ → List Line
 lines text = as_lines (split 10 text)
 
 -- A number in front of numbers, where all can be read.
-abbrev pub and_then : Number → Option (List ℕ) → Option (List ℕ)
-and_then (Number.Value n) none = none
-and_then (Number.Value n) (some ns) = some (n ∷ ns)
-and_then Number.Bad o = none
+abbrev pub and_then : Option ℕ → Option (List ℕ) → Option (List ℕ)
+and_then (Some n) None = None
+and_then (Some n) (Some ns) = Some (n ∷ ns)
+and_then None o = None
 
 -- The numbers in the fields, where there are just n fields and each holds a number.
 abbrev pub numbers : ℕ → List (List ℕ) → Option (List ℕ)
-numbers zero [] = some []
-numbers zero (f ∷ fs) = none
-numbers (suc n) [] = none
+numbers zero [] = Some []
+numbers zero (f ∷ fs) = None
+numbers (suc n) [] = None
 numbers (suc n) (f ∷ fs) = and_then (number f) (numbers n fs)

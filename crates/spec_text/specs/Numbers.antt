@@ -1,7 +1,7 @@
 -- What a number is in a text: "A number has no sign and no leading zero (0 itself excepted) and is at most
 -- 4,294,967,295." Bytes are numbers from 0 to 255; 48 to 57 are the digits 0 to 9. Assumes nothing.
 use Rattle.std.specs.Prelude.{ℕ, ◌+◌, ◌*◌, ◌-◌, Bool, true, false, cond, not, ◌&&◌, List, [], ◌∷◌, leb, eqb}
-use Rattle.spec_text.specs.declared.Number.{Number}
+use Rattle.std.specs.Prelude.{Option, Some, None}
 
 -- Every byte is a digit: no sign, and nothing else.
 abbrev pub all_digits : List ℕ → Bool
@@ -23,6 +23,6 @@ value n (b ∷ s) = value (n * 10 + (b - 48)) s
 abbrev pub largest : ℕ
 largest = 4294967295
 
--- The number that a field holds.
-unfoldable pub number : List ℕ → Number
-number s = cond ((leads s && all_digits s) && leb (value 0 s) largest) (Number.Value (value 0 s)) Number.Bad
+-- The number that a field holds, where it holds one.
+unfoldable pub number : List ℕ → Option ℕ
+number s = cond ((leads s && all_digits s) && leb (value 0 s) largest) (Some (value 0 s)) None

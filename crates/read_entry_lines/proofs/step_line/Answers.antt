@@ -4,7 +4,7 @@ use Prim.Native.Nat.{ℕ, suc}
 use mathlib.Core.Path.{◌≡◌, refl, sym, ◌∙◌, ap, subst}
 use mathlib.Core.Bool.{true, false, false≢true}
 use mathlib.Core.List.{List, [], ◌∷◌}
-use mathlib.Core.Option.{Option, none, some}
+use Rattle.std.specs.Prelude.{Option, Some, None}
 use native.Mathlib.Omega.{arith}
 use borrow.Author.Tests.{ltb-false}
 use lib.Dec.{ltb}
@@ -25,25 +25,25 @@ use Rattle.read_entry_lines.proofs.step_line.Goals as goal
 
 -- What a step without n says, by its number.
 says-once : (x : Number)
-    → entry_directive EntryKind.Step (as_three (and_then x (some []))) ≡ directive_of Kind.Step (and_then x (some []))
+    → entry_directive EntryKind.Step (as_three (and_then x (Some []))) ≡ directive_of Kind.Step (and_then x (Some []))
 says-once (Number.Value n) = refl
 says-once Number.Bad = refl
 
 -- What a step with n says, by its numbers.
 says-times : (x y : Number)
-    → entry_directive EntryKind.Run (as_three (and_then x (and_then y (some []))))
-    ≡ directive_of Kind.Step (and_then x (and_then y (some [])))
+    → entry_directive EntryKind.Run (as_three (and_then x (and_then y (Some []))))
+    ≡ directive_of Kind.Step (and_then x (and_then y (Some [])))
 says-times (Number.Value n) (Number.Value m) = refl
 says-times (Number.Value n) Number.Bad = refl
 says-times Number.Bad y = refl
 
 -- Nothing is said where a field is missing, or one is too many.
-says_nothing : (kind : EntryKind) (o : Option (List ℕ)) → o ≡ none
+says_nothing : (kind : EntryKind) (o : Option (List ℕ)) → o ≡ None
     → entry_directive kind (as_three o) ≡ directive_of Kind.Step o
 says_nothing kind o e = rw e
 
 -- A number in front of what cannot be read.
-not-read : (x : Number) → and_then x none ≡ none
+not-read : (x : Number) → and_then x None ≡ None
 not-read (Number.Value n) = refl
 not-read Number.Bad = refl
 
@@ -61,7 +61,7 @@ more-fields s [] e = absurd (false≢true e)
 more-fields s (f ∷ []) e = absurd (false≢true e)
 more-fields s (f ∷ g ∷ []) e = says-times (number f) (number g)
 more-fields s (f ∷ g ∷ h ∷ fs) e =
-    says_nothing EntryKind.Run (and_then (number f) (and_then (number g) none))
+    says_nothing EntryKind.Run (and_then (number f) (and_then (number g) None))
     (ap (and_then (number f)) (not-read (number g)) ∙ not-read (number f))
 
 -- What is promised of what was read is promised of what the definitions say.

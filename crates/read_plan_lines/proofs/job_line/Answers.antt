@@ -1,6 +1,6 @@
 -- `job_line` reads and judges a job, and puts it behind the earlier ones. Assumes nothing.
 use mathlib.Core.Path.{◌≡◌, sym, ap₂}
-use mathlib.Core.Option.{some}
+use Rattle.std.specs.Prelude.{Some}
 use borrow.Author.Tests.{lt-leb, le-ltb}
 use lib.Dec.{leb}
 use lib.ListN.{get_or}
@@ -21,7 +21,7 @@ returns c =
       priority = get_or c.read_numbers.new.out 1 0;
     } in
     let says-job : directive_of Kind.Job (numbers 2 (fields_at c.args.line.now c.args.at))
-    ≡ some (job (the_job)) = rw (← c.read_numbers.ensures.out_after, c.in-Read.is) in
+    ≡ Some (job (the_job)) = rw (← c.read_numbers.ensures.out_after, c.in-Read.is) in
     let card-test : leb (sizes_in c.args.plan.now).cards (the_job).card
     ≡ leb c.sizes-sizes.result.cards c.wide.result =
     sym (ap₂ (λ (z : Sizes) n. leb z.cards n) c.sizes-sizes.ensures c.wide.ensures) in

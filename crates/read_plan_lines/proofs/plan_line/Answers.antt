@@ -1,7 +1,7 @@
 -- `plan_line` reads the sizes, judges them and puts them. Assumes nothing.
 use mathlib.Core.Path.{◌≡◌, sym, ◌∙◌}
 use mathlib.Core.List.{[], ◌∷◌}
-use mathlib.Core.Option.{some}
+use Rattle.std.specs.Prelude.{Some}
 use Rattle.spec_text.specs.Lines.{numbers}
 use Rattle.read_fields.specs.FieldPlaces.{fields_at}
 use Rattle.spec_format.specs.declared.Kind.{Kind}
@@ -21,11 +21,11 @@ returns c =
       copies = c.wide-5.result;
     } in
     let says-plan : directive_of Kind.Plan (numbers 5 (fields_at c.args.line.now c.args.at))
-    ≡ some (plan (the_sizes)) = good-item Kind.Plan _ _ _
+    ≡ Some (plan (the_sizes)) = good-item Kind.Plan _ _ _
     c.read_numbers.ensures.out_after
     c.in-Read.is
     ∙ λ i.
-    some
+    Some
     (plan
     (record {
       cards = sym c.wide.ensures i;

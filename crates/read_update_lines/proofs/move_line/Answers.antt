@@ -3,7 +3,7 @@ use Prim.Native.Nat.{ℕ, ◌+◌, ◌-◌, ◌*◌, ◌≤◌, ◌<◌}
 use mathlib.Core.Path.{◌≡◌, sym, ◌∙◌, ap, subst}
 use mathlib.Core.Bool.{cond}
 use mathlib.Core.List.{[], ◌∷◌, ◌++◌}
-use mathlib.Core.Option.{some}
+use Rattle.std.specs.Prelude.{Some}
 use native.Mathlib.Omega.{arith}
 use lib.ListN.{length}
 use Rattle.spec_format.specs.declared.Fault.{Fault}
@@ -21,8 +21,8 @@ use Rattle.read_update_lines.proofs.move_line.Goals as goal
 use Rattle.read_update_lines.proofs.move_line.Goals.{After-wide-count, After-names_past, After-blocks_with-blocks}
 
 -- Where the count of moves has been read: what the line says,
-says : (c : After-wide-count) → move_directive c.args.kind c.args.numbers ≡ some (move c.move_from-m.result)
-says c = ap (move_directive c.args.kind) c.in-Are.is ∙ ap (λ (x : Move). some (move x)) (sym c.move_from-m.ensures)
+says : (c : After-wide-count) → move_directive c.args.kind c.args.numbers ≡ Some (move c.move_from-m.result)
+says c = ap (move_directive c.args.kind) c.in-Are.is ∙ ap (λ (x : Move). Some (move x)) (sym c.move_from-m.ensures)
 
 -- the place of the last update,
 placed : (c : After-wide-count) → updates_in c.args.plan.now ≡ c.updates-last.result - 1 + 1
