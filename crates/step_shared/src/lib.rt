@@ -2,7 +2,7 @@
 // and on to another place, and the effects that items give.
 #![tactic(auto)]
 
-ghost use Rattle.std.specs.Prelude.{◌≡◌, ◌&&◌, ◌≤◌, ℤ, pos, get_or};
+ghost use Rattle.std.specs.Prelude.{◌≡◌, ◌&&◌, ℕ, ◌≤◌, ◌<◌, ℤ, pos, get_or};
 ghost use Rattle.spec_machine.specs.Status.{same_status, undecided};
 ghost use Rattle.spec_machine.specs.Steps.{same_version};
 ghost use Rattle.step_cells.specs.Tables.{idle as atOpening};
@@ -19,6 +19,14 @@ pub fn same_version(tables: &Tables, w: Registers) -> bool
     ensures { result ≡ same_version tables.now.v w.ver }
 {
     tables.v == w.ver
+}
+
+// Ann[r]. This and status_of take the array alone: a proof then knows its length, and that each of its numbers fits.
+pub fn announced(ann: &[u32; 8], r: usize) -> u32
+    requires { r < 8 }
+    ensures { (none : ℕ) → result ≡ get_or ann.now r none }
+{
+    ann[r]
 }
 
 // Stat[k].
