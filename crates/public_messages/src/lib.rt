@@ -41,6 +41,7 @@ fn meaning_of(number: u32) -> Option<&'static [u8]>
 }
 
 // The entry that is refused, where one is.
+#[tactic(auto, using(report_bytes::proofs::Writes::then), unfolding(report_bytes::specs::Writes::put))]
 fn put_entry(buffer: &mut [u8], at: usize, entry: u32) -> usize
     requires { at + 18 ≤ 4294967296 }
     ensures { Writes (entry_part entry) 18 at buffer.old result buffer.new }
@@ -53,6 +54,7 @@ fn put_entry(buffer: &mut [u8], at: usize, entry: u32) -> usize
 }
 
 // Where a refusal was met, at the buffer's start.
+#[tactic(auto, unfolding(report_bytes::specs::Writes::put))]
 fn put_where_met(buffer: &mut [u8], line: u32, entry: u32) -> usize
     ensures { Writes (where_met line entry) 35 0 buffer.old result buffer.new }
 {
