@@ -1,2 +1,0 @@
--- Where the parts of a case stand.
-pub mod CaseParts
