@@ -2,6 +2,7 @@
 #![tactic(auto)]
 
 ghost use Rattle.std.specs.Prelude.{◌≤◌, ◌<◌, length, IfSome};
+ghost use Rattle.vectors_cases.specs.CaseParts.{CasePlaced};
 
 use arrayvec::ArrayVec;
 use spec_format::Entry;
@@ -23,9 +24,9 @@ pub enum Kind {
 pub struct Case<'a> {
     pub name: &'a [u8],
     pub kind: Kind,
-    room: &'a [u8],
+    pub room: &'a [u8],
     pub text: &'a [u8],
-    records: &'a [u8],
+    pub records: &'a [u8],
     pub output: &'a [u8],
 }
 
@@ -63,7 +64,8 @@ fn kind_of(word: &[u8]) -> Option<Kind> {
 // The first case of a pack, and what stands behind it. There is none where the case's first line has not seven words,
 // a length is no number, or a part runs past the pack's end.
 pub fn next_case(pack: &[u8]) -> Option<(Case<'_>, &[u8])>
-    ensures { IfSome result (λ p. length p.1.now < length pack.now) }
+    ensures parts { IfSome result (λ p. CasePlaced pack.now p.0 p.1.now) }
+    ensures rest { IfSome result (λ p. length p.1.now < length pack.now) }
 {
     let end = pack.iter().position(|x| *x == b'\n')?;
     let mut words = pack[..end].split(|x| *x == b' ');

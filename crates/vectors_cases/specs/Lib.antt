@@ -1,0 +1,2 @@
+-- Where the parts of a case stand.
+pub mod CaseParts
