@@ -72,9 +72,19 @@ pub fn tell<E: Print>(errors: &E, name: &[u8], error: io::Error) {
     let _ = errors.write_all(b"\n");
 }
 
+// What a failed write comes to. It is told by the output's name, but not where nobody reads the output any more.
+pub fn write_error<E: Print>(errors: &E, name: &[u8], error: io::Error) -> WriteError {
+    if error.kind() == ErrorKind::BrokenPipe {
+        return WriteError::Closed;
+    }
+    tell(errors, name, error);
+    WriteError::Failed
+}
+
 // Reads until the bytes are full or the input ends, and answers how many were read, or nothing where a read fails, which
 // is told by the input's name. Where the input's bytes are known, those that were read are its first, and there are
-// fewer than there is room for only where it has no more.
+// fewer than there is room for only where it has no more. (Of the library's methods, `read_exact` refuses an input that
+// is shorter, and `read_to_end` needs a heap.)
 pub fn read_all<R: Outputs, I: Read>(
     rt: &R,
     input: &mut I,
@@ -101,7 +111,7 @@ pub fn read_all<R: Outputs, I: Read>(
 
 // Writes all of the bytes. A write that fails, or takes none of them, is told by the output's name, but not where
 // nobody reads the output any more. Where it is known what the output holds, all of the bytes then stand behind it.
-// Not the library's `write_all`, which says nothing of a signal: what a program tells of one may not change.
+// (The library's `write_all` goes on after a signal, which is told here as a failure: that may not change.)
 pub fn write_all<O: Write, E: Print>(
     output: &mut O,
     errors: &E,
@@ -119,11 +129,7 @@ pub fn write_all<O: Write, E: Print>(
                 return Err(WriteError::Failed);
             }
             Ok(n) => done += n,
-            Err(error) if error.kind() == ErrorKind::BrokenPipe => return Err(WriteError::Closed),
-            Err(error) => {
-                tell(errors, name, error);
-                return Err(WriteError::Failed);
-            }
+            Err(error) => return Err(write_error(errors, name, error)),
         }
     }
     Ok(())

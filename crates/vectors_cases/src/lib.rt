@@ -19,6 +19,29 @@ pub enum Kind {
     WriteSchedule,
 }
 
+impl Kind {
+    // The word for it in a case's first line.
+    pub fn word(self) -> &'static str {
+        match self {
+            Kind::Run => "run",
+            Kind::Schedule => "schedule",
+            Kind::Write => "write",
+            Kind::WriteSchedule => "write_schedule",
+        }
+    }
+
+    // The kind that a word says.
+    fn of(word: &[u8]) -> Option<Kind> {
+        match word {
+            b"run" => Some(Kind::Run),
+            b"schedule" => Some(Kind::Schedule),
+            b"write" => Some(Kind::Write),
+            b"write_schedule" => Some(Kind::WriteSchedule),
+            _ => None,
+        }
+    }
+}
+
 // A case: what its first line says of it, and its parts.
 #[derive(Clone, Copy)]
 pub struct Case<'a> {
@@ -40,6 +63,14 @@ pub fn line(text: &[u8], before: usize) -> &[u8] {
     text.split(|x| *x == b'\n').nth(before).unwrap_or(b"")
 }
 
+// How many lines that were written stand in the output as well, before the first that does not.
+pub fn same_lines(written: &[u8], output: &[u8]) -> usize {
+    let lines = line_count(written);
+    (0..lines)
+        .find(|i| line(written, *i) != line(output, *i))
+        .unwrap_or(lines)
+}
+
 // The last line of a text whose lines are each ended by a line feed.
 pub fn last_line(text: &[u8]) -> &[u8] {
     text.rsplit(|x| *x == b'\n').nth(1).unwrap_or(b"")
@@ -48,17 +79,6 @@ pub fn last_line(text: &[u8]) -> &[u8] {
 // The length that a word says.
 fn length_of(word: &[u8]) -> Option<usize> {
     Some(read_fields::number_of(word)? as usize)
-}
-
-// The kind that a word says.
-fn kind_of(word: &[u8]) -> Option<Kind> {
-    match word {
-        b"run" => Some(Kind::Run),
-        b"schedule" => Some(Kind::Schedule),
-        b"write" => Some(Kind::Write),
-        b"write_schedule" => Some(Kind::WriteSchedule),
-        _ => None,
-    }
 }
 
 // The first case of a pack, and what stands behind it. There is none where the case's first line has not seven words,
@@ -73,7 +93,7 @@ pub fn next_case(pack: &[u8]) -> Option<(Case<'_>, &[u8])>
         return None;
     }
     let name = words.next()?;
-    let kind = kind_of(words.next()?)?;
+    let kind = Kind::of(words.next()?)?;
     let room = words.next()?;
     let rest = &pack[end + 1..];
     let (text, rest) = rest.split_at_checked(length_of(words.next()?)?)?;
