@@ -2,18 +2,73 @@
 // to standard output where the two differ, and for each pack how many cases agree.
 #![tactic(auto)]
 
-ghost use Rattle.std.specs.Prelude.{◌≤◌, length};
+ghost use Rattle.std.specs.Prelude.{ℕ, ◌+◌, ◌≤◌, length};
+ghost use Rattle.vectors_agreement.specs.LowTally.{Low};
 
 use program_streams::Outputs;
 use public_printing::{OUTPUT, Printed};
 use public_reference::Answer;
 use report_ending::Ended;
 use spec_format::Form;
+use std::fmt;
 use std::io;
 use vectors_cases::{Case, Kind};
 
 // What every byte of the buffer is before a run.
 const MARKER: u8 = 170;
+
+// How many cases of a kind were tried, and how many of them agree.
+#[derive(Clone, Copy, Default)]
+pub struct Tally {
+    pub agree: usize,
+    pub tried: usize,
+}
+
+impl Tally {
+    // Counts one case more, which agrees or not.
+    pub fn count(&mut self, agrees: bool)
+        requires { Low self.old 18446744073709551614 }
+        ensures { (n : ℕ) → Low self.old n → Low self.new (n + 1) }
+    {
+        self.agree += usize::from(agrees);
+        self.tried += 1;
+    }
+}
+
+impl fmt::Display for Tally {
+    fn fmt<W: fmt::Write>(&self, f: &mut fmt::Formatter<W>) -> fmt::Result {
+        write!(f, "{} of {}", self.agree, self.tried)
+    }
+}
+
+// How many of a pack's texts agree in their check and in their run, of its schedules, and of what is written.
+#[derive(Clone, Copy, Default)]
+pub struct Tallies {
+    pub checks: Tally,
+    pub runs: Tally,
+    pub schedules: Tally,
+    pub writings: Tally,
+}
+
+impl Tallies {
+    // Writes how many cases of a pack agree. Of schedules and of what is written it does where the pack has any.
+    pub fn print<R: Outputs>(&self, rt: &R, pack: &str) {
+        tell_failed(rt, println!(rt; "{pack}: {self}"));
+    }
+}
+
+impl fmt::Display for Tallies {
+    fn fmt<W: fmt::Write>(&self, f: &mut fmt::Formatter<W>) -> fmt::Result {
+        write!(f, "{} checks agree, {} runs agree", self.checks, self.runs)?;
+        if self.schedules.tried > 0 {
+            write!(f, ", {} schedules agree", self.schedules)?;
+        }
+        if self.writings.tried > 0 {
+            write!(f, ", {} writings agree", self.writings)?;
+        }
+        Ok(())
+    }
+}
 
 // A case that is tried: its pack's name, the case, and how it has to end.
 #[derive(Clone, Copy)]
@@ -194,7 +249,7 @@ impl<'a> Trial<'a> {
     ) -> bool
         requires callable { F.IsAlwaysCallable call }
         requires fits { (text buffer : _) (printed : Printed) (left : _)
-            → F.post call text buffer printed left → printed.length ≤ OUTPUT }
+            → F.post call text buffer printed left → printed.length ≤ length left.now }
     {
         room.fill(MARKER);
         let printed = call(self.case.text, room);
