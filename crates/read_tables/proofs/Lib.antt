@@ -1,6 +1,2 @@
--- Laws of the tables.
-pub mod Puts
-pub mod TabulatedParts
-pub mod PlanTable
-pub mod NoteTable
-pub mod PlanIn
+-- Laws of plans and notes.
+mod LastUpdate

@@ -1,4 +1,3 @@
--- Where the numbers of a plan and of the notes on entry lines stand, and what a table holds.
-pub mod Puts
-pub mod PlanTable
-pub mod NoteTable
+-- Plans with one part changed, and the single entries of notes.
+pub mod Plans
+pub mod Notes

@@ -1,68 +1,37 @@
--- What the code keeps beside the machine, so that an entry is judged, counted and reported without looking through the
--- records: who is active and who runs on each card, counts, what has stopped the run, and the commits. Assumes nothing.
-use Rattle.std.specs.Prelude.{ℕ, zero, suc, ◌+◌, cond, ◌&&◌, List, [], ◌∷◌, eqb, ltb, get_or, set}
-use Rattle.read_tables.specs.PlanTable.{sizes_in, job_at}
+-- What is kept beside the machine, and what an entry makes of it: who is active and who runs on each card, counts, what
+-- has stopped the run, and the commits. Book and Commit are declared in src/lib.rt. Assumes nothing.
+use Rattle.std.specs.Prelude.{ℕ, zero, suc, ◌+◌, Bool, false, cond, ◌&&◌, List, [], ◌∷◌, ◌++◌, eqb, ltb}
+use Rattle.std.specs.Prelude.{get_or, set, Option, Some, None}
+use Rattle.spec_format.specs.Plan.{Plan, job_in}
+use Rattle.spec_machine.specs.declared.Refusal.{Refusal}
 use Rattle.step_cells.specs.declared.Change.{Change}
-use Rattle.step_cells.specs.CellTable.{
-  places,
-  entries_at,
-  committed_at,
-  halt_at,
-  other_at,
-  running_at,
-  active_at,
-  called_update_at,
-}
-use Rattle.step_cells.specs.Tables.{Tables}
+use Rattle.step_cells.specs.declared.Book.{Book}
+use Rattle.step_cells.specs.declared.Tables.{Tables}
+use Rattle.step_cells.specs.Tables.{own_of}
 
--- The book: how many entries were accepted, how many of them committed a call, the number of the refusal that has
--- stopped the run, the place of the first record of another kind, the job that runs on each card, whether each job is
--- active, as 0 or 1, and the commits.
-pub record Book : Type 0 where
-  pub entries : ℕ
-  pub committed : ℕ
-  pub halt : ℕ
-  pub other : ℕ
-  pub running : List ℕ
-  pub active : List ℕ
-  pub commits : List (List ℕ)
+-- Of the best job so far, where there is one, and job k: the one of higher priority.
+abbrev pub higher_of : Plan → Option ℕ → ℕ → Option ℕ
+higher_of plan None k = Some k
+higher_of plan (Some best) k =
+    cond (ltb (job_in plan best).priority (job_in plan k).priority) (Some k) (Some best)
 
--- The book in tables.
-abbrev pub book_of : Tables → Book
-book_of x =
-    record {
-      entries = get_or x.cells entries_at 0;
-      committed = get_or x.cells committed_at 0;
-      halt = get_or x.cells halt_at 0;
-      other = get_or x.cells other_at 0;
-      running = places x.cells running_at 8;
-      active = places x.cells active_at 16;
-      commits = x.commits;
-    }
+-- The active job of highest priority on a card among the first n jobs, where there is one.
+abbrev pub first_on : Plan → List Bool → ℕ → ℕ → Option ℕ
+first_on plan active card zero = None
+first_on plan active card (suc n) =
+    cond (get_or active n false && eqb (job_in plan n).card card) (higher_of plan (first_on plan active card n) n)
+    (first_on plan active card n)
 
--- Of the best job so far, N where there is none, and job k: the one of higher priority.
-abbrev pub higher_of : List ℕ → ℕ → ℕ → ℕ
-higher_of t best k =
-    cond (eqb best (sizes_in t).jobs) k (cond (ltb (job_at t best).priority (job_at t k).priority) k best)
-
--- The active job of highest priority on a card among the first n jobs, N where there is none.
-abbrev pub first_on : List ℕ → List ℕ → ℕ → ℕ → ℕ
-first_on t active card zero = (sizes_in t).jobs
-first_on t active card (suc n) =
-    cond (eqb (get_or active n 0) 1 && eqb (job_at t n).card card) (higher_of t (first_on t active card n) n)
-    (first_on t active card n)
-
--- The book where job p is now active (1) or no longer (0): another job may then run on its card.
-abbrev pub with_active : List ℕ → ℕ → ℕ → Book → Book
-with_active t p up b =
+-- The book where job p is now active or no longer: another job may then run on its card.
+abbrev pub with_active : Plan → ℕ → Bool → Book → Book
+with_active plan p up b =
     record {
       entries = b.entries;
-      committed = b.committed;
       halt = b.halt;
       other = b.other;
       running =
-          set b.running (job_at t p).card
-          (first_on t (set b.active p up) (job_at t p).card (sizes_in t).jobs);
+          set b.running (job_in plan p).card
+          (first_on plan (set b.active p up) (job_in plan p).card plan.sizes.jobs);
       active = set b.active p up;
       commits = b.commits;
     }
@@ -72,12 +41,12 @@ abbrev pub committing : ℕ → ℕ → Book → Book
 committing h update b =
     record {
       entries = b.entries;
-      committed = b.committed + 1;
       halt = b.halt;
       other = b.other;
       running = b.running;
       active = b.active;
-      commits = set b.commits b.committed ((b.entries + 1) ∷ h ∷ update ∷ []);
+      commits =
+          record { items = b.commits.items ++ record { entry = b.entries + 1; job = h; update = update } ∷ [] };
     }
 
 -- The book with one more accepted entry.
@@ -85,7 +54,6 @@ abbrev pub counted : Book → Book
 counted b =
     record {
       entries = b.entries + 1;
-      committed = b.committed;
       halt = b.halt;
       other = b.other;
       running = b.running;
@@ -93,19 +61,43 @@ counted b =
       commits = b.commits;
     }
 
+-- The book stopped by a refusal.
+abbrev pub halted : Refusal → Book → Book
+halted r b =
+    record {
+      entries = b.entries;
+      halt = Some r;
+      other = b.other;
+      running = b.running;
+      active = b.active;
+      commits = b.commits;
+    }
+
+-- The book with this place for the first record of another kind.
+abbrev pub noting : Option ℕ → Book → Book
+noting place b =
+    record {
+      entries = b.entries;
+      halt = b.halt;
+      other = place;
+      running = b.running;
+      active = b.active;
+      commits = b.commits;
+    }
+
 -- What a change of job p makes of the book in tables.
-abbrev pub book_after : List ℕ → Tables → ℕ → Change → Book
-book_after t x p Change.Nothing = book_of x
-book_after t x p (Change.Version n f) = book_of x
-book_after t x p (Change.Announced r) = book_of x
-book_after t x p (Change.Returned r) = with_active t p 0 (book_of x)
-book_after t x p Change.Pending = book_of x
-book_after t x p Change.Trans = book_of x
-book_after t x p (Change.Listed i a b) = book_of x
-book_after t x p (Change.Block a from to) = book_of x
-book_after t x p (Change.Word b i w) = book_of x
-book_after t x p (Change.Published n) = book_of x
-book_after t x p (Change.Bank b n) = book_of x
-book_after t x p Change.Cleared = book_of x
-book_after t x p (Change.Decided h n) = book_of x
-book_after t x p (Change.Commit h) = committing h (get_or x.cells (called_update_at h) 0) (book_of x)
+abbrev pub book_after : Plan → Tables → ℕ → Change → Book
+book_after plan x p Change.Nothing = x.book
+book_after plan x p (Change.Version n f) = x.book
+book_after plan x p (Change.Announced r) = x.book
+book_after plan x p (Change.Returned r) = with_active plan p false x.book
+book_after plan x p Change.Pending = x.book
+book_after plan x p Change.Trans = x.book
+book_after plan x p (Change.Listed i a b) = x.book
+book_after plan x p (Change.Block a from to) = x.book
+book_after plan x p (Change.Word b i w) = x.book
+book_after plan x p (Change.Published n) = x.book
+book_after plan x p (Change.Bank b n) = x.book
+book_after plan x p Change.Cleared = x.book
+book_after plan x p (Change.Decided h n) = x.book
+book_after plan x p (Change.Commit h) = committing h (own_of x h).update x.book

@@ -1,9 +1,8 @@
 -- Which answer of the step list an item's effect stands for, and what carrying it out promises. Change and Effect are
 -- declared in src/lib.rt. Assumes nothing.
-use Rattle.std.specs.Prelude.{ℕ, ◌+◌, ◌≤◌, ◌<◌, Bool, true, ◌&&◌, ◌≡◌, List, pos, length, get_or, set, replicate}
+use Rattle.std.specs.Prelude.{ℕ, ◌≤◌, ◌<◌, Bool, true, ◌&&◌, ◌≡◌, List, pos, length, get_or, set, replicate}
 use Rattle.spec_text.specs.FirstPlaces.{in_first_places}
 use Rattle.spec_format.specs.Plan.{Plan}
-use Rattle.read_tables.specs.PlanTable.{plan_in}
 use Rattle.spec_machine.specs.declared.Place.{Place}
 use Rattle.spec_machine.specs.declared.Store.{Store}
 use Rattle.spec_machine.specs.declared.Out.{Out}
@@ -14,8 +13,9 @@ use Rattle.spec_machine.specs.Ranges.{most_numbers}
 use Rattle.step_cells.specs.declared.Registers.{Registers}
 use Rattle.step_cells.specs.declared.Change.{Change}
 use Rattle.step_cells.specs.declared.Effect.{Effect}
-use Rattle.step_cells.specs.CellTable.{places, version_in, dirty_at, own_at, cell_places, Only}
-use Rattle.step_cells.specs.Tables.{Tables, Own, own_of, work_with, machine_of, shared_of}
+use Rattle.step_cells.specs.declared.Own.{Own}
+use Rattle.step_cells.specs.declared.Tables.{Tables}
+use Rattle.step_cells.specs.Tables.{own_of, work_with, machine_of, shared_of}
 
 -- A job's own part with a block marked, and that block's number of this run.
 abbrev pub marking : ℕ → ℕ → ℕ → Own → Own
@@ -76,16 +76,16 @@ abbrev pub out_of : Plan → Tables → ℕ → Effect → Out
 out_of plan x p r =
     record {
       work =
-          work_with (own_after (in_row x.addr p) (in_row x.old p) r.change (own_of x.cells p)) r.registers;
-      store = store_of plan.sizes.jobs p (own_of x.cells p) r.change;
+          work_with (own_after (in_row x.rows.addr p) (in_row x.rows.old p) r.change (own_of x p)) r.registers;
+      store = store_of plan.sizes.jobs p (own_of x p) r.change;
       done = r.done;
     }
 
--- An effect of job p, whose registers are w, is the item at this place, in a plan's table and tables.
-unfoldable pub Does : Place → List ℕ → Tables → ℕ → Registers → Effect → Type 0
-Does place t x p w r =
-    out_of (plan_in t) x p r
-    ≡ item (plan_in t) (shared_of (plan_in t) x) p place (work_with (own_of x.cells p) w)
+-- An effect of job p, whose registers are w, is the item at this place, in a plan and tables.
+unfoldable pub Does : Place → Plan → Tables → ℕ → Registers → Effect → Type 0
+Does place plan x p w r =
+    out_of plan x p r
+    ≡ item plan (shared_of plan x) p place (work_with (own_of x p) w)
 
 -- A change, with the job's next registers, stays inside the tables. H22 publishes the count in those registers.
 abbrev pub ChangeInside : Registers → Change → Type 0
@@ -119,35 +119,30 @@ Room x p (Change.Published n) = Unit {0}
 Room x p (Change.Bank b n) = Unit {0}
 Room x p Change.Cleared = Unit {0}
 Room x p (Change.Decided h n) =
-    length (replaced (in_row x.addr p) (in_row x.old p) (places x.cells (dirty_at p) 16) n) ≤ 8
+    length (replaced (in_row x.rows.addr p) (in_row x.rows.old p) (own_of x p).dirty n) ≤ 8
 Room x p (Change.Commit h) = Unit {0}
 
 -- The condition of a check and of H25, of registers w: V = ver and Stat[hid] = −1.
 abbrev pub may_decide : Tables → Registers → Bool
 may_decide x w =
-    same_version (version_in x.cells) w.ver && same_status (get_or x.stat w.hid (pos 0)) undecided
+    same_version (x.v) w.ver && same_status (get_or x.stat w.hid (pos 0)) undecided
 
 -- Where H25 is about to decide, the replaced numbers have room in job p's copy list.
 abbrev pub Reclaims : Tables → ℕ → Registers → Type 0
 Reclaims x p w =
     may_decide x w ≡ true
-    → length (replaced (in_row x.addr p) (in_row x.old p) (places x.cells (dirty_at p) 16) w.numblks) ≤ 8
+    → length (replaced (in_row x.rows.addr p) (in_row x.rows.old p) (own_of x p).dirty w.numblks) ≤ 8
 
 -- An effect stays inside, whatever the tables hold.
 abbrev pub StaysInside : Effect → Type 0
 StaysInside r = ChangeInside r.registers r.change × ((x : Tables) (p : ℕ) → Room x p r.change)
 
--- From one table of cells to another job p's own part becomes what f makes of it, and no other place differs.
-pub record OwnStep (p : ℕ) (f : Own → Own) (t u : List ℕ) : Type 0 where
-  pub only : Only (own_at p) (own_at p + 64) t u
-  pub own_is : length t ≡ cell_places → own_of u p ≡ f (own_of t p)
-
 -- From tables x to tables y a change of job p was carried out: with next registers that it fits in the job's place, the
 -- tables are the machine that the definitions give.
-unfoldable pub Carried : List ℕ → ℕ → Change → Tables → Tables → Type 0
-Carried t p s x y =
-    (ws : List Registers) (w : Registers) (done : Bool) → length x.cells ≡ cell_places → length ws ≡ 16
+unfoldable pub Carried : Plan → ℕ → Change → Tables → Tables → Type 0
+Carried plan p s x y =
+    (ws : List Registers) (w : Registers) (done : Bool) → length ws ≡ 16
     → ChangeInside w s
     → machine_of y (set ws p w)
-    ≡ carried_out (plan_in t) p (out_of (plan_in t) x p (record { registers = w; change = s; done = done }))
+    ≡ carried_out plan p (out_of plan x p (record { registers = w; change = s; done = done }))
     (machine_of x ws)

@@ -1,7 +1,7 @@
--- Where the cells stand in their table, the machine that the tables are, what an item's answer stands for, the book
--- that is kept beside the machine, and what the items ask.
-pub mod CellTable
+-- The machine that the tables are, the book that is kept beside it, what an item's answer stands for, and what the items
+-- ask.
 pub mod Tables
-pub mod Effects
+pub mod Changed
 pub mod Book
+pub mod Effects
 pub mod Fits

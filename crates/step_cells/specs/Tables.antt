@@ -1,5 +1,6 @@
--- The machine that the tables and the jobs' registers are. Registers is declared in src/lib.rt. Assumes nothing.
-use Rattle.std.specs.Prelude.{ℕ, ◌≡◌, false, List, [], ℤ, pos, length, get_or}
+-- The machine that the tables and the jobs' registers are. Tables, Own and Registers are declared in src/lib.rt. Assumes
+-- nothing.
+use Rattle.std.specs.Prelude.{ℕ, ◌≡◌, false, List, [], pos, length, get_or, replicate, None}
 use Rattle.spec_format.specs.Plan.{Plan, tabulate}
 use Rattle.spec_machine.specs.declared.Place.{Place}
 use Rattle.spec_machine.specs.declared.Working.{Working}
@@ -7,62 +8,71 @@ use Rattle.spec_machine.specs.declared.Cells.{Cells}
 use Rattle.spec_machine.specs.Steps.{Shared}
 use Rattle.spec_machine.specs.Machine.{Machine, shared_in}
 use Rattle.step_cells.specs.declared.Registers.{Registers}
-use Rattle.step_cells.specs.CellTable.{cell_places, places, version_in, ann_at, trans_at, bank_at, numblks_at}
-use Rattle.step_cells.specs.CellTable.{dirty_at, curr_at, copy_at, called_update_at}
+use Rattle.step_cells.specs.declared.Own.{Own}
+use Rattle.step_cells.specs.declared.Tables.{Tables}
 
--- The tables that are lent: the cells, the statuses, the store, the rows of addresses, of old and of new block numbers,
--- and the commits.
-pub record Tables : Type 0 where
-  pub cells : List ℕ
-  pub stat : List ℤ
-  pub store : List ℕ
-  pub addr : List (List ℕ)
-  pub old : List (List ℕ)
-  pub new : List (List ℕ)
-  pub commits : List (List ℕ)
+-- Nothing of a job's own.
+abbrev pub no_own : Own
+no_own = record { dirty = replicate 16 0; curr = replicate 16 0; copy = replicate 8 0; update = 0 }
 
--- These seven.
-abbrev pub lent : List ℕ → List ℤ → List ℕ → List (List ℕ) → List (List ℕ) → List (List ℕ) → List (List ℕ) → Tables
-lent cells stat store addr old new commits =
-    record { cells = cells; stat = stat; store = store; addr = addr; old = old; new = new; commits = commits }
+-- Job p's own.
+abbrev pub own_of : Tables → ℕ → Own
+own_of x p = get_or x.own p no_own
 
--- The tables are whole: but for the rows they have the lengths of the code's arrays.
+-- Tables in which nothing stands yet.
+abbrev pub blank_tables : Tables
+blank_tables =
+    record {
+      v = record { count = 0; flag = false };
+      ann = replicate 8 0;
+      stat = replicate 17 (pos 0);
+      trans = replicate 16 0;
+      bank = replicate 16 0;
+      numblks = replicate 16 0;
+      own = replicate 16 no_own;
+      rows =
+          record {
+            addr = replicate 16 (replicate 16 0);
+            old = replicate 16 (replicate 16 0);
+            new = replicate 16 (replicate 16 0);
+          };
+      store = replicate 2304 0;
+      book =
+          record {
+            entries = 0;
+            halt = None;
+            other = None;
+            running = replicate 8 None;
+            active = replicate 16 false;
+            commits = record { items = [] };
+          };
+    }
+
+-- The arrays of a job's own have the lengths of their types.
+pub record OwnWhole (o : Own) : Type 0 where
+  pub dirty : length o.dirty ≡ 16
+  pub curr : length o.curr ≡ 16
+  pub copy : length o.copy ≡ 8
+
+-- The arrays of the tables, but for the rows, have the lengths of their types.
 pub record Whole (x : Tables) : Type 0 where
-  pub cells : length x.cells ≡ cell_places
+  pub ann : length x.ann ≡ 8
   pub stat : length x.stat ≡ 17
+  pub trans : length x.trans ≡ 16
+  pub bank : length x.bank ≡ 16
+  pub numblks : length x.numblks ≡ 16
+  pub own : length x.own ≡ 16
+  pub owns : (p : ℕ) → OwnWhole (own_of x p)
   pub store : length x.store ≡ 2304
-  pub commits : length x.commits ≡ 4000
+  pub running : length x.book.running ≡ 8
+  pub active : length x.book.active ≡ 16
 
 -- The shared cells.
-abbrev pub cells_of : List ℕ → List ℤ → Cells
-cells_of t stat =
-    record {
-      v = version_in t;
-      ann = places t ann_at 8;
-      stat = stat;
-      trans = places t trans_at 16;
-      bank = places t bank_at 16;
-      numblks = places t numblks_at 16;
-    }
+abbrev pub cells_of : Tables → Cells
+cells_of x =
+    record { v = x.v; ann = x.ann; stat = x.stat; trans = x.trans; bank = x.bank; numblks = x.numblks }
 
--- What a job's working record has besides its registers.
-pub record Own : Type 0 where
-  pub update : ℕ
-  pub dirty : List ℕ
-  pub curr : List ℕ
-  pub copy : List ℕ
-
--- Job p's, in the cells.
-abbrev pub own_of : List ℕ → ℕ → Own
-own_of t p =
-    record {
-      update = get_or t (called_update_at p) 0;
-      dirty = places t (dirty_at p) 16;
-      curr = places t (curr_at p) 16;
-      copy = places t (copy_at p) 8;
-    }
-
--- The working record of both.
+-- The working record of a job's own part and its registers.
 abbrev pub work_with : Own → Registers → Working
 work_with o w =
     record {
@@ -113,19 +123,19 @@ idle =
     }
 
 -- Every job's working record.
-unfoldable pub works_of : List ℕ → List Registers → List Working
-works_of t ws = tabulate 16 (λ k. work_with (own_of t k) (get_or ws k idle))
+unfoldable pub works_of : List Own → List Registers → List Working
+works_of os ws = tabulate 16 (λ k. work_with (get_or os k no_own) (get_or ws k idle))
 
 -- The machine that the tables are with the jobs' registers.
 abbrev pub machine_of : Tables → List Registers → Machine
 machine_of x ws =
     record {
-      cells = cells_of x.cells x.stat;
-      jobs = works_of x.cells ws;
+      cells = cells_of x;
+      jobs = works_of x.own ws;
       store = x.store;
-      addrlist = x.addr;
-      oldlist = x.old;
-      newlist = x.new;
+      addrlist = x.rows.addr;
+      oldlist = x.rows.old;
+      newlist = x.rows.new;
     }
 
 -- The shared cells as an item reads them; the jobs' records are no part of them.

@@ -1,66 +1,110 @@
-// The shared cells, and what is kept beside them, in one table of numbers that is lent: an accessor for each, and the
-// types of the step list's code. specs/CellTable.antt says where each number stands; the code of no other crate knows.
+// The tables of the machine: the shared cells, the rows, the store and the book, with what each job keeps of its own
+// besides its registers; and the types of the step list's code.
 #![tactic(auto)]
 
-ghost use Rattle.std.specs.Prelude.{◌≡◌, ℕ, ◌+◌, ◌*◌, ◌≤◌, ◌<◌, eqb, get_or, set};
-ghost use Rattle.step_cells.specs.CellTable.{cell_places, entries_at, committed_at, halt_at, other_at, ann_at};
-ghost use Rattle.step_cells.specs.CellTable.{running_at};
-ghost use Rattle.step_cells.specs.CellTable.{active_at, trans_at, bank_at, numblks_at, dirty_at, curr_at, copy_at};
-ghost use Rattle.step_cells.specs.CellTable.{called_update_at};
-ghost use Rattle.step_cells.specs.CellTable.{places, version_in, Filled};
+ghost use Rattle.std.specs.Prelude.{◌≡◌};
+ghost use Rattle.step_cells.specs.Tables.{blank_tables};
 
-use spec_machine::{Place, Version};
+use arrayvec::ArrayVec;
+use spec_machine::{Place, Refusal, Version};
 
-// How many numbers the table of the cells has.
-pub const CELL_PLACES: usize = 1152;
+// What a job keeps of its own besides its registers: its marks (for each block 0 where it is not listed, 1 where it is
+// listed, 2 where it is written too, as the definitions have them), its numbers of this run, its copy list, and the
+// update that it was called with.
+#[derive(Clone, Copy)]
+pub struct Own {
+    pub dirty: [u32; 16],
+    pub curr: [u32; 16],
+    pub copy: [u32; 8],
+    pub update: u32,
+}
 
-// Where the count of accepted entries stands; V's count and flag come first.
-const ENTRIES: usize = 2;
+// "Each job has its own row of addresses, old and new block numbers."
+#[derive(Clone, Copy)]
+pub struct Rows {
+    pub addr: [[u32; 16]; 16],
+    pub old: [[u32; 16]; 16],
+    pub new: [[u32; 16]; 16],
+}
 
-// Where the count of commits stands.
-const COMMITTED: usize = 3;
+// A commit: its entry, from 1, and the job and the update of the committed call.
+#[derive(Clone, Copy, Default)]
+pub struct Commit {
+    pub entry: u32,
+    pub job: u32,
+    pub update: u32,
+}
 
-// Where the number of the refusal stands that has stopped the run.
-const HALT: usize = 4;
+// What is kept beside the machine, so that an entry is judged, counted and reported without looking through the jobs:
+// how many entries were accepted, the refusal that has stopped the run, the place of the first record of another kind,
+// from 1, the job that runs on each card, which jobs are active, and the commits.
+#[derive(Drop)]
+pub struct Book {
+    pub entries: u32,
+    pub halt: Option<Refusal>,
+    pub other: Option<usize>,
+    pub running: [Option<usize>; 8],
+    pub active: [bool; 16],
+    pub commits: ArrayVec<Commit, 4000>,
+}
 
-// Where the place of the first record of another kind stands.
-const OTHER: usize = 5;
+// The tables: the shared cells as the source names them (statuses have one more, Stat[N]), what each job keeps of its
+// own, the rows, the store and the book.
+#[derive(Drop)]
+pub struct Tables {
+    pub v: Version,
+    pub ann: [u32; 8],
+    pub stat: [i32; 17],
+    pub trans: [u32; 16],
+    pub bank: [u32; 16],
+    pub numblks: [u32; 16],
+    pub own: [Own; 16],
+    pub rows: Rows,
+    pub store: [u32; 2304],
+    pub book: Book,
+}
 
-// Where the announcements begin.
-const ANN: usize = 8;
+impl Tables {
+    // Tables in which nothing stands yet.
+    pub fn blank() -> Tables
+        ensures { result ≡ blank_tables }
+    {
+        let own = Own {
+            dirty: [0; 16],
+            curr: [0; 16],
+            copy: [0; 8],
+            update: 0,
+        };
+        Tables {
+            v: Version {
+                count: 0,
+                flag: false,
+            },
+            ann: [0; 8],
+            stat: [0; 17],
+            trans: [0; 16],
+            bank: [0; 16],
+            numblks: [0; 16],
+            own: [own; 16],
+            rows: Rows {
+                addr: [[0; 16]; 16],
+                old: [[0; 16]; 16],
+                new: [[0; 16]; 16],
+            },
+            store: [0; 2304],
+            book: Book {
+                entries: 0,
+                halt: None,
+                other: None,
+                running: [None; 8],
+                active: [false; 16],
+                commits: ArrayVec::new(),
+            },
+        }
+    }
+}
 
-// Where the running jobs begin, by card.
-const RUNNING: usize = 16;
-
-// Where it begins which jobs are active.
-const ACTIVE: usize = 32;
-
-// Where the announced updates begin.
-const TRANS: usize = 64;
-
-// Where the bank begins.
-const BANK: usize = 80;
-
-// Where the counts of the rows begin.
-const NUMBLKS: usize = 96;
-
-// Where the jobs' own places begin, the marks first.
-const DIRTY: usize = 128;
-
-// Where the numbers of this run begin.
-const CURR: usize = 144;
-
-// Where the copy lists begin.
-const COPY: usize = 160;
-
-// Where the updates that jobs were called with begin.
-const UPDATE: usize = 168;
-
-// How many places a job has of its own.
-const OWN: usize = 64;
-
-// The scalars of a job's working record (spec_machine::Working): its registers. Its marks, its numbers of this run, its
-// copy list and the update that it was called with stand in the cells. The loop copies registers whole: in this order
+// The scalars of a job's working record (spec_machine::Working): its registers. The rest of it is Own. The loop copies registers whole: in this order
 // they take 32 bytes, and of the orders that do it is among the fastest.
 #[derive(Clone, Copy)]
 pub struct Registers {
@@ -122,322 +166,4 @@ pub struct Effect {
     pub registers: Registers,
     pub change: Change,
     pub done: bool,
-}
-
-// The number at a place.
-fn get(cells: &[u32; CELL_PLACES], at: usize) -> u32
-    requires { at < cell_places }
-    ensures { result ≡ get_or cells.now at 0 }
-{
-    cells[at]
-}
-
-// Number i of the n from a start on. The length n is for the contract alone.
-fn number_at(cells: &[u32; CELL_PLACES], start: usize, n: usize, i: usize) -> u32
-    requires { (i < n) × (start + n ≤ cell_places) }
-    ensures { (none : ℕ) → result ≡ get_or (places cells.now start n) i none }
-{
-    get(cells, start + i)
-}
-
-// Puts a number at a place.
-fn put(cells: &mut [u32; CELL_PLACES], at: usize, n: u32)
-    requires { at < cell_places }
-    ensures { cells.new ≡ set cells.old at n }
-{
-    cells[at] = n;
-}
-
-// V.
-pub fn version(cells: &[u32; CELL_PLACES]) -> Version
-    ensures { result ≡ version_in cells.now }
-{
-    Version {
-        count: get(cells, 0),
-        flag: get(cells, 1) == 1,
-    }
-}
-
-// How many entries were accepted.
-pub fn entries(cells: &[u32; CELL_PLACES]) -> u32
-    ensures { result ≡ get_or cells.now entries_at 0 }
-{
-    get(cells, ENTRIES)
-}
-
-// How many of them committed a call.
-pub fn committed(cells: &[u32; CELL_PLACES]) -> u32
-    ensures { result ≡ get_or cells.now committed_at 0 }
-{
-    get(cells, COMMITTED)
-}
-
-// The number of the refusal that has stopped the run, 0 while it goes on.
-pub fn halt(cells: &[u32; CELL_PLACES]) -> u32
-    ensures { result ≡ get_or cells.now halt_at 0 }
-{
-    get(cells, HALT)
-}
-
-// The place of the first record of another kind, 0 where there is none.
-pub fn other(cells: &[u32; CELL_PLACES]) -> u32
-    ensures { result ≡ get_or cells.now other_at 0 }
-{
-    get(cells, OTHER)
-}
-
-// Ann[r].
-pub fn ann(cells: &[u32; CELL_PLACES], r: u32) -> u32
-    requires { r < 8 }
-    ensures { (none : ℕ) → result ≡ get_or (places cells.now ann_at 8) r none }
-{
-    number_at(cells, ANN, 8, r as usize)
-}
-
-// The job that runs on card r, N where none does.
-pub fn running(cells: &[u32; CELL_PLACES], r: u32) -> u32
-    requires { r < 8 }
-    ensures { (none : ℕ) → result ≡ get_or (places cells.now running_at 8) r none }
-{
-    number_at(cells, RUNNING, 8, r as usize)
-}
-
-// Whether job k is active.
-pub fn is_active(cells: &[u32; CELL_PLACES], k: usize) -> bool
-    requires { k < 16 }
-    ensures { (none : ℕ) → result ≡ eqb (get_or (places cells.now active_at 16) k none) 1 }
-{
-    number_at(cells, ACTIVE, 16, k) == 1
-}
-
-// Trans[k].
-pub fn trans(cells: &[u32; CELL_PLACES], k: usize) -> u32
-    requires { k < 16 }
-    ensures { (none : ℕ) → result ≡ get_or (places cells.now trans_at 16) k none }
-{
-    number_at(cells, TRANS, 16, k)
-}
-
-// Bank[b].
-pub fn bank(cells: &[u32; CELL_PLACES], b: u32) -> u32
-    requires { b < 16 }
-    ensures { (none : ℕ) → result ≡ get_or (places cells.now bank_at 16) b none }
-{
-    number_at(cells, BANK, 16, b as usize)
-}
-
-// The count of job k's row.
-pub fn numblks(cells: &[u32; CELL_PLACES], k: usize) -> u32
-    requires { k < 16 }
-    ensures { (none : ℕ) → result ≡ get_or (places cells.now numblks_at 16) k none }
-{
-    number_at(cells, NUMBLKS, 16, k)
-}
-
-// Job p's mark of block b: 0 where it is not listed, 1 where it is listed, 2 where it is written too.
-pub fn dirty(cells: &[u32; CELL_PLACES], p: usize, b: u32) -> u32
-    requires { (p < 16) × (b < 16) }
-    ensures { (none : ℕ) → result ≡ get_or (places cells.now (dirty_at p) 16) b none }
-{
-    number_at(cells, DIRTY + OWN * p, 16, b as usize)
-}
-
-// Job p's number of block b in this run.
-pub fn curr(cells: &[u32; CELL_PLACES], p: usize, b: u32) -> u32
-    requires { (p < 16) × (b < 16) }
-    ensures { (none : ℕ) → result ≡ get_or (places cells.now (curr_at p) 16) b none }
-{
-    number_at(cells, CURR + OWN * p, 16, b as usize)
-}
-
-// Number i of job p's copy list.
-pub fn copy(cells: &[u32; CELL_PLACES], p: usize, i: u32) -> u32
-    requires { (p < 16) × (i < 8) }
-    ensures { (none : ℕ) → result ≡ get_or (places cells.now (copy_at p) 8) i none }
-{
-    number_at(cells, COPY + OWN * p, 8, i as usize)
-}
-
-// The update that job p was called with.
-pub fn update(cells: &[u32; CELL_PLACES], p: usize) -> u32
-    requires { p < 16 }
-    ensures { result ≡ get_or cells.now (called_update_at p) 0 }
-{
-    get(cells, UPDATE + OWN * p)
-}
-
-// A flag as a number.
-fn bit(flag: bool) -> u32
-    ensures { eqb result 1 ≡ flag }
-{
-    if flag {
-        return 1;
-    }
-    0
-}
-
-// Puts V, its flag as a number.
-fn put_version_bits(cells: &mut [u32; CELL_PLACES], count: u32, flag: u32)
-    ensures { cells.new ≡ set (set cells.old 0 count) 1 flag }
-{
-    put(cells, 0, count);
-    put(cells, 1, flag);
-}
-
-// Puts V.
-pub fn put_version(cells: &mut [u32; CELL_PLACES], count: u32, flag: bool)
-    ensures { (bit : ℕ) × ((eqb bit 1 ≡ flag)
-        × (cells.new ≡ set (set cells.old 0 count) 1 bit)) }
-{
-    put_version_bits(cells, count, bit(flag));
-}
-
-// Puts the count of accepted entries.
-pub fn put_entries(cells: &mut [u32; CELL_PLACES], n: u32)
-    ensures { cells.new ≡ set cells.old entries_at n }
-{
-    put(cells, ENTRIES, n);
-}
-
-// Puts the count of commits.
-pub fn put_committed(cells: &mut [u32; CELL_PLACES], n: u32)
-    ensures { cells.new ≡ set cells.old committed_at n }
-{
-    put(cells, COMMITTED, n);
-}
-
-// Puts the number of the refusal that has stopped the run.
-pub fn put_halt(cells: &mut [u32; CELL_PLACES], n: u32)
-    ensures { cells.new ≡ set cells.old halt_at n }
-{
-    put(cells, HALT, n);
-}
-
-// Puts the place of the first record of another kind.
-pub fn put_other(cells: &mut [u32; CELL_PLACES], n: u32)
-    ensures { cells.new ≡ set cells.old other_at n }
-{
-    put(cells, OTHER, n);
-}
-
-// Puts Ann[r].
-pub fn put_ann(cells: &mut [u32; CELL_PLACES], r: u32, k: u32)
-    requires { r < 8 }
-    ensures { cells.new ≡ set cells.old (ann_at + r) k }
-{
-    put(cells, ANN + r as usize, k);
-}
-
-// Puts the job that runs on card r.
-pub fn put_running(cells: &mut [u32; CELL_PLACES], r: u32, k: u32)
-    requires { r < 8 }
-    ensures { cells.new ≡ set cells.old (running_at + r) k }
-{
-    put(cells, RUNNING + r as usize, k);
-}
-
-// Puts whether job k is active, as 0 or 1.
-pub fn put_active(cells: &mut [u32; CELL_PLACES], k: usize, up: u32)
-    requires { k < 16 }
-    ensures { cells.new ≡ set cells.old (active_at + k) up }
-{
-    put(cells, ACTIVE + k, up);
-}
-
-// Puts Trans[k].
-pub fn put_trans(cells: &mut [u32; CELL_PLACES], k: usize, u: u32)
-    requires { k < 16 }
-    ensures { cells.new ≡ set cells.old (trans_at + k) u }
-{
-    put(cells, TRANS + k, u);
-}
-
-// Puts Bank[b].
-pub fn put_bank(cells: &mut [u32; CELL_PLACES], b: u32, n: u32)
-    requires { b < 16 }
-    ensures { cells.new ≡ set cells.old (bank_at + b) n }
-{
-    put(cells, BANK + b as usize, n);
-}
-
-// Puts the count of job k's row.
-pub fn put_numblks(cells: &mut [u32; CELL_PLACES], k: usize, n: u32)
-    requires { k < 16 }
-    ensures { cells.new ≡ set cells.old (numblks_at + k) n }
-{
-    put(cells, NUMBLKS + k, n);
-}
-
-// Puts job p's mark of block b.
-pub fn put_dirty(cells: &mut [u32; CELL_PLACES], p: usize, b: u32, mark: u32)
-    requires { (p < 16) × (b < 16) }
-    ensures { cells.new ≡ set cells.old (dirty_at p + b) mark }
-{
-    put(cells, DIRTY + OWN * p + b as usize, mark);
-}
-
-// Puts job p's number of block b in this run.
-pub fn put_curr(cells: &mut [u32; CELL_PLACES], p: usize, b: u32, n: u32)
-    requires { (p < 16) × (b < 16) }
-    ensures { cells.new ≡ set cells.old (curr_at p + b) n }
-{
-    put(cells, CURR + OWN * p + b as usize, n);
-}
-
-// Puts number i of job p's copy list.
-pub fn put_copy(cells: &mut [u32; CELL_PLACES], p: usize, i: u32, n: u32)
-    requires { (p < 16) × (i < 8) }
-    ensures { cells.new ≡ set cells.old (copy_at p + i) n }
-{
-    put(cells, COPY + OWN * p + i as usize, n);
-}
-
-// Puts the update that job p was called with.
-pub fn put_update(cells: &mut [u32; CELL_PLACES], p: usize, u: u32)
-    requires { p < 16 }
-    ensures { cells.new ≡ set cells.old (called_update_at p) u }
-{
-    put(cells, UPDATE + OWN * p, u);
-}
-
-// Puts n numbers from a start on, from a first one in steps.
-fn fill(cells: &mut [u32; CELL_PLACES], start: usize, n: usize, first: u32, step: u32)
-    requires { (start + n ≤ cell_places) × (first + step * n < 4294967296) }
-    ensures { Filled start n (λ i. first + step * i) cells.old cells.new }
-{
-    let mut i = 0;
-    while i < n {
-        put(cells, start + i, first + step * i as u32);
-        i += 1;
-    }
-}
-
-// Every announcement is N.
-pub fn open_ann(cells: &mut [u32; CELL_PLACES], none: u32)
-    ensures { Filled ann_at 8 (λ _. none) cells.old cells.new }
-{
-    fill(cells, ANN, 8, none, 0);
-}
-
-// No job runs on any card.
-pub fn open_running(cells: &mut [u32; CELL_PLACES], none: u32)
-    ensures { Filled running_at 8 (λ _. none) cells.old cells.new }
-{
-    fill(cells, RUNNING, 8, none, 0);
-}
-
-// The bank counts from a first number on.
-pub fn open_bank(cells: &mut [u32; CELL_PLACES], first: u32)
-    requires { first ≤ 128 }
-    ensures { Filled bank_at 16 (λ b. first + b) cells.old cells.new }
-{
-    fill(cells, BANK, 16, first, 1);
-}
-
-// Job p's copy list counts from a first number on.
-pub fn open_copy(cells: &mut [u32; CELL_PLACES], p: usize, first: u32)
-    requires { (p < 16) × (first ≤ 128) }
-    ensures { Filled (copy_at p) 8 (λ i. first + i) cells.old cells.new }
-{
-    fill(cells, COPY + OWN * p, 8, first, 1);
 }
