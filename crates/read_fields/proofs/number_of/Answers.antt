@@ -1,26 +1,31 @@
--- `number_of` meets its contract: its tests are those of a number's first byte. Assumes nothing.
-use mathlib.Core.Path.{sym, ◌∙◌}
-use native.Mathlib.Omega.{arith}
-use borrow.Author.Tests.{eq-eqb, ne_eqb}
-use Rattle.read_fields.proofs.Scanned.{number-scanned, number-bad, leads-none, leads_one, leads-more}
+-- `number_of` meets its contract. Assumes nothing.
+use Rattle.std.proofs.Common.{arith, ◌≡◌, ◌<◌, length, sym, true}
+use Rattle.std.proofs.lemmas.Grind.{common_steps}
+use Rattle.spec_text.specs.Numbers.{leads}
+use Rattle.read_fields.proofs.Scanned.{number-judged, number-bad, judged-over, leads-none, leads_one, leads-other, leads-zero}
 use Rattle.read_fields.proofs.number_of.Goals as goal
+use Rattle.read_fields.proofs.number_of.Goals.{else-first-eq48-via-then-first-eq48+else-not-is_empty, else-first-eq48-via-else-first-eq48}
 
-pub returns-then-field-eq0 : goal.returns-then-field-eq0
-returns-then-field-eq0 c =
-    let s = c.args.field.now in
-    sym (number-bad s (leads-none s c.if-field-eq0.true))
+pub returns-in_default : goal.returns-in_default
+returns-in_default c = sym (number-bad _ (leads-none _ c.in_default.len_below))
 
-pub returns-then-field-eq1 : goal.returns-then-field-eq1
-returns-then-field-eq1 c =
-    let s = c.args.field.now in
-    c.scan.ensures ∙ sym (number-scanned s (leads_one s c.if-field-eq1.true))
+pub returns-then-not-is_empty : goal.returns-then-not-is_empty
+returns-then-not-is_empty c =
+    let more : 1 < length c.args.field.now = grind (arith, common_steps) in
+    sym (number-bad _ (leads-zero _ more c.if-first-eq48.true))
 
-pub returns-then-field-eq48 : goal.returns-then-field-eq48
-returns-then-field-eq48 c =
+pub loop-b-init : goal.loop-b-init
+loop-b-init c =
     let s = c.args.field.now in
-    sym (number-bad s (leads-more s (omega arith) ∙ simp (eq-eqb _ _ c.if-field-eq48.true)))
+    let led : leads s ≡ true =
+    elim c.else-first-eq48.branch [
+      | else-first-eq48-via-then-first-eq48+else-not-is_empty w ↦ leads_one s (grind (arith, common_steps))
+      | else-first-eq48-via-else-first-eq48 w ↦ leads-other s (omega arith) w.if-first-eq48.false
+    ] in
+    (omega arith, number-judged s led)
 
-pub returns : goal.returns
-returns c =
-    let s = c.args.field.now in
-    c.scan-2.ensures ∙ sym (number-scanned s (leads-more s (omega arith) ∙ simp (ne_eqb _ _ c.if-field-eq48.false)))
+pub returns-in_err-checked_mul : goal.returns-in_err-checked_mul
+returns-in_err-checked_mul c = grind (arith, common_steps, judged-over)
+
+pub returns-in_err-n : goal.returns-in_err-n
+returns-in_err-n c = grind (arith, common_steps, judged-over)
