@@ -1,5 +1,5 @@
 -- Tables filled as at the opening are the machine's opening. Assumes a sound plan.
-use Rattle.std.proofs.Common.{◌≡◌, refl, ap, sym, subst, ℕ, ◌+◌, ◌*◌, ◌<◌, ◌≤◌, ◌⊎◌, inl, inr, List, pos, get_or, replicate}
+use Rattle.std.proofs.Common.{◌≡◌, refl, ap, sym, subst, subst₂, ℕ, ◌+◌, ◌*◌, ◌<◌, ◌≤◌, ◌⊎◌, inl, inr, List, pos, get_or, replicate}
 use Rattle.std.proofs.lemmas.Bool.{cases_lt}
 use Rattle.std.proofs.lemmas.List.{get_or-replicate, get_or_past}
 use Rattle.spec_format.specs.Sound.{Sound}
@@ -20,13 +20,17 @@ module _ (plan : Plan) where
   abbrev owns : List Own
   owns = tabulate 16 (λ p. own_opened (p * plan.sizes.copies))
 
-  -- Blank tables, filled.
-  abbrev pub filled : Tables
-  filled =
-      with_store (opening_store plan)
+  -- Blank tables, filled: these are the statuses and the store.
+  abbrev pub filled : List ℤ → List ℕ → Tables
+  filled stat store =
+      with_store store
       (with_own owns
       (with_bank (tabulate 16 (λ k. copy_blocks plan + k))
-      (with_stat (replicate 17 (pos plan.sizes.jobs)) (with_ann (replicate 8 plan.sizes.jobs) blank_tables))))
+      (with_stat stat (with_ann (replicate 8 plan.sizes.jobs) blank_tables))))
+
+  -- As they are at the opening.
+  abbrev all_filled : Tables
+  all_filled = filled (replicate 17 (pos plan.sizes.jobs)) (opening_store plan)
 
   -- A job's record.
   opened-job : (k : ℕ) → k < 16
@@ -41,7 +45,7 @@ module _ (plan : Plan) where
   opened-jobs = tabulate-same 16 _ _ opened-job
 
   -- The machine.
-  opened-machine : machine_of filled (replicate 16 idle) ≡ opening_of plan
+  opened-machine : machine_of all_filled (replicate 16 idle) ≡ opening_of plan
   unfolding opening_of
   opened-machine =
       ap
@@ -67,9 +71,9 @@ module _ (plan : Plan) where
       by (inr h) =
           subst OwnWhole (sym (get_or_past owns p no_own h)) (record { dirty = refl; curr = refl; copy = refl })
 
-  pub opened : Sound plan → Opened plan filled
+  all_opened : Sound plan → Opened plan all_filled
   unfolding opening_of
-  opened ok =
+  all_opened ok =
       record {
         machine_is = opened-machine;
         book_is = refl;
@@ -90,3 +94,8 @@ module _ (plan : Plan) where
     where
       sized : Sized (opening_of plan)
       sized = sized-opening plan ok
+
+  -- They are the opening.
+  pub opened : Sound plan → (stat : List ℤ) → stat ≡ replicate 17 (pos plan.sizes.jobs) → (store : List ℕ)
+      → store ≡ opening_store plan → Opened plan (filled stat store)
+  opened ok stat e store f = subst₂ (λ x y. Opened plan (filled x y)) (sym e) (sym f) (all_opened ok)

@@ -1,5 +1,5 @@
 -- `open` fills blank tables. Assumes nothing.
-use Rattle.std.proofs.Common.{◌≡◌, refl, ◌∙◌, ◌+◌, ◌-◌, ◌*◌, arith, length, replicate, pos, to_z, w32}
+use Rattle.std.proofs.Common.{◌≡◌, refl, ◌∙◌, ap, ◌+◌, ◌-◌, ◌*◌, arith, length, replicate, pos, to_z, w32}
 use Rattle.std.proofs.lemmas.Int.{to_z_pos}
 use Rattle.std.proofs.lemmas.Slice.{put_mid-paste}
 use borrow.Rule.Slice.PartMut.{put_mid}
@@ -22,7 +22,5 @@ returns c =
       c.open_own.ensures,
       c.«sizes-sizes».ensures,
       c.words-memory.ensures.value,
-      small,
-      memory,
     )
-    (opened plan c.requires)
+    (opened plan c.requires _ (ap (replicate 17) small) _ memory)
