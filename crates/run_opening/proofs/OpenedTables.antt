@@ -1,5 +1,5 @@
 -- Tables filled as at the opening are the machine's opening. Assumes a sound plan.
-use Rattle.std.proofs.Common.{◌≡◌, refl, ap, sym, subst, subst₂, ℕ, ◌+◌, ◌*◌, ◌<◌, ◌≤◌, ◌⊎◌, inl, inr, List, pos, get_or, replicate}
+use Rattle.std.proofs.Common.{◌≡◌, refl, ap, sym, subst, subst₂, ℤ, ℕ, ◌+◌, ◌*◌, ◌<◌, ◌≤◌, ◌⊎◌, inl, inr, List, pos, get_or, replicate}
 use Rattle.std.proofs.lemmas.Bool.{cases_lt}
 use Rattle.std.proofs.lemmas.List.{get_or-replicate, get_or_past}
 use Rattle.spec_format.specs.Sound.{Sound}
@@ -71,6 +71,7 @@ module _ (plan : Plan) where
       by (inr h) =
           subst OwnWhole (sym (get_or_past owns p no_own h)) (record { dirty = refl; curr = refl; copy = refl })
 
+  -- They are the opening.
   all_opened : Sound plan → Opened plan all_filled
   unfolding opening_of
   all_opened ok =
@@ -95,7 +96,7 @@ module _ (plan : Plan) where
       sized : Sized (opening_of plan)
       sized = sized-opening plan ok
 
-  -- They are the opening.
+  -- The same, by what the statuses and the store hold.
   pub opened : Sound plan → (stat : List ℤ) → stat ≡ replicate 17 (pos plan.sizes.jobs) → (store : List ℕ)
       → store ≡ opening_store plan → Opened plan (filled stat store)
   opened ok stat e store f = subst₂ (λ x y. Opened plan (filled x y)) (sym e) (sym f) (all_opened ok)
