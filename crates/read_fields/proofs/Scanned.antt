@@ -52,3 +52,6 @@ pub leads-zero : (s : List ℕ) → 1 < length s → get_or s 0 0 ≡ 48 → lea
 leads-zero [] h e = absurd (omega arith)
 leads-zero (b ∷ []) h e = absurd (omega arith)
 leads-zero (b ∷ c ∷ s) h e = rw e
+
+-- What the tests of a field's first bytes say.
+pub ruleset first_bytes = (number-judged, number-bad, leads-none, leads_one, leads-other, leads-zero)

@@ -25,6 +25,7 @@ fn first(s: &[u8], x: u8) -> Option<usize>
 }
 
 // The number that a field holds. A field of more bytes than one does not begin with 0.
+#[tactic(auto, using(crate::proofs::Scanned::first_bytes))]
 pub fn number_of(field: &[u8]) -> Option<u32>
     ensures { result ≡ number field.now }
 {

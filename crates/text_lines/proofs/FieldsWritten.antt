@@ -8,7 +8,7 @@ use lib.ListN.{length, get_or, take, drop, length-append}
 use lib.Seq.{take-suc}
 use Rattle.spec_text.specs.Decimal.{decimal}
 use Rattle.spec_text.specs.WrittenLines.{fields_behind}
-use Rattle.spec_text.proofs.Digits.{decimal-small, decimal-large}
+use Rattle.spec_text.proofs.Digits.{decimal-small, decimal-large, decimal-most}
 use Rattle.text_lines.proofs.Backwards.{Filling, room, moved, done-is}
 
 -- A number has a digit at least.
@@ -56,6 +56,9 @@ tabbed-more ns i h =
     let next : i + 1 ≡ suc i = omega arith in
     rw (next, take-suc ns i 0 h, tabbed-snoc (take i ns) (get_or ns i 0))
     (omega (arith, length-append (tabbed (take i ns)) (9 ∷ decimal (get_or ns i 0))))
+
+-- How long one field is, and that it is short.
+pub ruleset field_lengths = (decimal-most, tabbed-more)
 
 -- The last of some fields to come is written, from r on.
 pub field-moved : {whole before part : List ℕ} {at r : ℕ} {ns' front : List ℕ} (ns : List ℕ) (n : ℕ)

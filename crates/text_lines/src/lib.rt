@@ -18,6 +18,7 @@ pub fn width(n: u32) -> usize
 }
 
 // How long the fields of numbers are, each behind a tab, with the line feed.
+#[tactic(auto, using(crate::proofs::FieldsWritten::field_lengths))]
 fn fields_length(numbers: &[u32]) -> usize
     requires { length numbers.now ≤ 4096 }
     ensures value { result ≡ length (fields_behind (map decimal numbers.now)) }
