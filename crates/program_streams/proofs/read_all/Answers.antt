@@ -21,5 +21,5 @@ loop-done-preserved g c =
     let placed = first_placed _ _ _ _ _ start.in_range next.bound.0 in
     record {
       in_range = search rules;
-      read = subst (Consumes _ _) placed (Consumes-trans _ _ _ _ _ start.read next.bytes.0)
+      read = subst (Consumes _ _) placed (Consumes-trans _ _ _ _ _ start.read next.bytes.0);
     }
