@@ -111,13 +111,6 @@ fn run_file<R: Files + Outputs>(rt: &R, name: &str, bytes: &mut [u8], room: &mut
     }
 }
 
-// Runs each pack. It is lent the room as arrays, whose lengths their types give: to count the zeros of so many would
-// take the prover too much room.
-fn run_files<R: Files + Outputs>(rt: &R, bytes: &mut [u8; ROOM], room: &mut [u8; OUTPUT]) {
-    run_file(rt, "04-counters-that-stop.pack", bytes, room);
-    run_file(rt, "wrong.pack", bytes, room);
-}
-
 // Runs the packs. The cases of the last one are wrong on purpose: one in its answer, one in a line of its report, one
 // in its run of steps, which its report takes one step short, one in its update's number, which its report lets pass,
 // and one in its sum, which its report has start again at 0; of those that are written, one has a run of one with its
@@ -125,5 +118,7 @@ fn run_files<R: Files + Outputs>(rt: &R, bytes: &mut [u8; ROOM], room: &mut [u8;
 fn main(rt: HostRuntime) {
     let mut bytes = [0u8; ROOM];
     let mut room = [0u8; OUTPUT];
-    run_files(&rt, &mut bytes, &mut room);
+    for name in ["04-counters-that-stop.pack", "wrong.pack"] {
+        run_file(&rt, name, &mut bytes, &mut room);
+    }
 }

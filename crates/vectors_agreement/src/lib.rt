@@ -10,8 +10,7 @@ use public_printing::{OUTPUT, Printed};
 use public_reference::Answer;
 use report_ending::Ended;
 use spec_format::Form;
-use std::fmt;
-use std::io;
+use std::{fmt, io};
 use vectors_cases::{Case, Kind};
 
 // What every byte of the buffer is before a run.
@@ -159,7 +158,10 @@ impl<'a> Trial<'a> {
         print!(rt; ": {way}: ")?;
         match difference {
             Difference::Answer { got, wanted } => {
-                println!(rt; "got {} {}, wanted {} {}", got.number, got.line, wanted.number, wanted.line)
+                println!(rt;
+                    "got {} {}, wanted {} {}",
+                    got.number, got.line, wanted.number, wanted.line
+                )
             }
             Difference::PastTheEnd => println!(rt; "bytes past the end were written"),
             Difference::Line { got, wanted } => {
@@ -212,7 +214,10 @@ impl<'a> Trial<'a> {
 
     // Checks the text, and compares the answer.
     pub fn check<R: Outputs>(&self, rt: &R) -> bool {
-        let got = public_reference::answer_of(public_reference::check(self.case.text, Form::Schedule));
+        let got = public_reference::answer_of(public_reference::check(
+            self.case.text,
+            Form::Schedule,
+        ));
         let compared = compare_answers(got, self.wanted_of_check());
         self.report(rt, "check", compared)
     }

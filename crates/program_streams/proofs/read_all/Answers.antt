@@ -1,5 +1,5 @@
 -- What one more read gave stands behind what was read before, and the input had it next.
-use Rattle.std.proofs.Common.{◌≡◌, ℕ, ◌+◌, ◌≤◌, List, Option, length, rules, sym, ap, ◌∙◌, subst, take, ◌++◌}
+use Rattle.std.proofs.Common.{◌≡◌, ℕ, ◌+◌, ◌≤◌, List, length, rules, sym, ap, ◌∙◌, subst, take, ◌++◌}
 use Rattle.std.proofs.Math.Seq.{take-append-add}
 use Rattle.std.proofs.lemmas.List.{take-append-le, length-take-le}
 use Rattle.std.specs.Io.KnownBytes.{Consumes}
@@ -21,5 +21,5 @@ loop-done-preserved g c =
     let placed = first_placed _ _ _ _ _ start.in_range next.bound.0 in
     record {
       in_range = search rules;
-      read = subst (Consumes _ _) placed (Consumes-trans _ _ _ _ _ start.read next.bytes.0)
+      read = subst (Consumes _ _) placed (Consumes-trans _ _ _ _ _ start.read next.bytes.0);
     }

@@ -6,7 +6,7 @@ use Rattle.program_streams.proofs.read_all.Given as goal
 abbrev pub invariant-loop-done : goal.invariant-loop-done
 invariant-loop-done g l = record {
   in_range : l.done ≤ length l.bytes;
-  read : Consumes (g.I.Read.remaining l.initial.input) (g.I.Read.remaining l.input) (take l.done l.bytes)
+  read : Consumes (g.I.Read.remaining l.initial.input) (g.I.Read.remaining l.input) (take l.done l.bytes);
 }
 
 abbrev pub decreases-loop-done : goal.decreases-loop-done

@@ -15,5 +15,5 @@ loop-done-preserved g c =
     let joined = ap (λ l. take at bytes ++ take c.in-Ok.n l) (take_rest bytes at) ∙ sym (take-add at _ bytes) in
     record {
       in_range = omega (arith, next.bound);
-      written = subst (Appends _ _) joined (Appends-trans _ _ _ _ _ start.written next.bytes)
+      written = subst (Appends _ _) joined (Appends-trans _ _ _ _ _ start.written next.bytes);
     }
