@@ -1,14 +1,13 @@
 -- Reading on by one line: what is left to read comes to the same as before. Assumes nothing.
-use Rattle.std.proofs.Common.{◌≡◌, refl, sym, ap, ◌∙◌, ℕ, ◌+◌, ◌-◌, ◌≤◌, ◌<◌, Bool, true, false, cond, ◌==◌}
+use Rattle.std.proofs.Common.{◌≡◌, refl, sym, ap, ◌∙◌, ℕ, ◌+◌, ◌≤◌, ◌<◌, Bool, true, false, ◌==◌}
 use Rattle.std.proofs.Common.{List, [], ◌∷◌, ◌++◌, length, take, drop, append_assoc, arith}
-use Rattle.std.specs.Prelude.{Option, Some, None, Result, Ok, Err, position}
+use Rattle.std.specs.Prelude.{Option, Some, None, Ok, Err, position}
 use Rattle.std.specs.List.{position_or_len}
 use Rattle.std.proofs.lemmas.Option.{cond_some}
 use mathlib.Core.List.{append-nil}
 use native.Mathlib.Nat.{sub-zero}
-use borrow.Author.Tests.{le-ltb, lt-ltb, ltb-true, ltb-false}
+use borrow.Author.Tests.{le-ltb, lt-ltb, ltb-true}
 use lib.Dec.{ltb}
-use Rattle.spec_text.proofs.Cases.{by-test}
 use Rattle.spec_text.specs.Lines.{Line, lines, fields}
 use Rattle.read_fields.proofs.FieldPlaces.{position-or}
 use Rattle.read_fields.proofs.LinePlaces.{lines_none, lines-ended, lines-open}
@@ -21,12 +20,12 @@ use Rattle.spec_format.specs.ParsedLines.{Directive, ParsedLine, parsed_from, pa
 use Rattle.spec_format.specs.Faults.{Draft, has_fault, laid_out}
 use Rattle.spec_format.specs.Reading.{ReadOutcome, refused, sound, blank, after, first_of, by_rank, or_else, parsed_in}
 use Rattle.spec_format.specs.Reading.{after_line, read_lines, listed, entries_of, Reading, refusal, accepted, given}
-use Rattle.spec_format.specs.Reading.{longest, reading}
+use Rattle.spec_format.specs.Reading.{reading}
 use Rattle.spec_format.proofs.FirstFault.{one_more}
 use Rattle.spec_format.proofs.Sound.{line-listed}
 use Rattle.read_tables.specs.Notes.{listed_in}
 use Rattle.read_line_promises.specs.declared.Progress.{Progress}
-use Rattle.read_line_promises.specs.Promises.{draft_of, Unread, line_outcome, read_outcome, parsed_at, LineDone}
+use Rattle.read_line_promises.specs.Promises.{draft_of, Unread, line_outcome, LineDone}
 
 -- What a text gives of which n lines with the single entries es have been read, where the lines ls that are left come
 -- to an outcome.

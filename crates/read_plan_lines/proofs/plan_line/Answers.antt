@@ -31,6 +31,6 @@ sized z plan notes blocks written entries good h =
 
 pub invariant_of-progress : goal.invariant_of-progress
 invariant_of-progress c = record {
-      consistent = rw (c.set_sizes.ensures, c.requires)
+  consistent = rw (c.set_sizes.ensures, c.requires)
       (sized _ _ _ _ _ _ (sym c.in_range.ensures ∙ c.if-not-in_range.false) (rw c.requires at c.args.progress.now.consistent));
-    }
+}

@@ -1,6 +1,6 @@
 -- `read` meets its contract: behind each line, what is left to read comes to the same as the whole. Assumes nothing.
-use Rattle.std.proofs.Common.{◌≡◌, refl, sym, ◌∙◌, ap, arith, rules, length, take, drop, ◌+◌, ◌-◌, ◌<◌, List, [], ◌∷◌, ℕ}
-use Rattle.std.specs.Prelude.{Result, Ok, Err}
+use Rattle.std.proofs.Common.{◌≡◌, refl, sym, ◌∙◌, ap, arith, rules, length, drop, ◌+◌, ◌-◌, List, [], ◌∷◌, ℕ}
+use Rattle.std.specs.Prelude.{Result}
 use Rattle.std.proofs.lemmas.List.{take_all, length-drop}
 use Rattle.std.proofs.lemmas.Result.{err_from_is_err_and}
 use Rattle.spec_format.specs.declared.LineFault.{LineFault}
