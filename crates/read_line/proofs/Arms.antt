@@ -1,5 +1,5 @@
 -- A line taken apart at its first tab, and what it comes to. Assumes nothing.
-use Rattle.std.proofs.Common.{◌≡◌, refl, sym, ℕ, ◌+◌, true, false, List, take, Result, Ok, Err}
+use Rattle.std.proofs.Common.{◌≡◌, refl, ℕ, ◌+◌, true, false, List, take, Result, Err}
 use denote.Enum.Bare.{sameb}
 use Rattle.spec_format.specs.contracts.Kind.{the_type}
 use Rattle.read_fields.specs.FieldPlaces.{place_of, fields_at}

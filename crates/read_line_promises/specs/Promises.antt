@@ -28,8 +28,8 @@ line_outcome form d r = or_else (first_of (has_fault form d r) by_rank) (d.lines
 abbrev pub outcome_of : Form → Draft → Kind → Option Directive → ReadOutcome
 outcome_of form d kind i =
     or_else (first_of (has_fault form d (record { ended = true; kind = kind; directive = i })) (drop 2 by_rank))
-        (d.lines + 1)
-        (sound (after d i))
+    (d.lines + 1)
+    (sound (after d i))
 
 -- What the answer of a line's reading says, with what has then been read.
 abbrev pub read_outcome : Result Unit LineFault → Progress → ReadOutcome

@@ -1,6 +1,7 @@
 // A whole text is read once, line by line: its plan is taken up as it is read, and its entry lines are noted.
 #![tactic(auto)]
 
+ghost use Rattle.std.specs.Prelude.{◌≡◌, ◌==◌, position};
 ghost use Rattle.spec_format.specs.Reading.{reading};
 ghost use Rattle.read_line_promises.specs.Promises.{Unread};
 ghost use Rattle.read_text.specs.Readings.{ReadTo};
@@ -11,6 +12,13 @@ use spec_format::{Fault, Form, LineFault, Verdict};
 
 // The most bytes of a text.
 const LONGEST: usize = 65536;
+
+// Where a line ends: at its line feed.
+fn end_of(rest: &[u8]) -> Option<usize>
+    ensures { result ≡ position (λ b. b == 10) rest.now }
+{
+    rest.iter().position(|b| *b == b'\n')
+}
 
 // Reads a text, which is measured first. Each line is ended by a line feed: a last line without one is refused,
 // whatever it holds. Time is linear in the text, whatever the runs in it.
@@ -26,7 +34,7 @@ pub fn read(text: &[u8], form: Form, progress: &mut Progress) -> Verdict
     }
     let mut rest = text;
     while !rest.is_empty() {
-        let Some(end) = rest.iter().position(|b| *b == b'\n') else {
+        let Some(end) = end_of(rest) else {
             return Err(LineFault {
                 fault: Fault::Unknown,
                 line: progress.lines + 1,

@@ -1,5 +1,5 @@
 -- The last of updates: where it stands, with one more update behind it, and with one more move in it. Assumes nothing.
-use Rattle.std.proofs.Common.{◌≡◌, refl, sym, ap, ◌∙◌, ℕ, suc, ◌+◌, ◌-◌, ◌<◌, List, [], ◌∷◌, ◌++◌, length, get_or, arith}
+use Rattle.std.proofs.Common.{◌≡◌, refl, ap, ◌∙◌, ℕ, suc, ◌-◌, ◌<◌, List, [], ◌∷◌, ◌++◌, length, get_or, arith}
 use Rattle.spec_format.specs.declared.Move.{Move}
 use Rattle.spec_format.specs.Plan.{blocks_written}
 use Rattle.spec_format.specs.Faults.{last_of}

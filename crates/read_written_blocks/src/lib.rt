@@ -14,9 +14,7 @@ fn writes_block(moves: &[Move], m: Move, size: usize) -> bool
     ensures { result ≡ list_any (λ n. block_of size (target n) == block_of size (target m)) moves.now }
 {
     let block = target_of(m) as usize / size;
-    moves
-        .iter()
-        .any(|n| target_of(*n) as usize / size == block)
+    moves.iter().any(|n| target_of(*n) as usize / size == block)
 }
 
 // How many blocks of this size the moves and one more write, where they write `blocks` of them without it.

@@ -1,5 +1,5 @@
 -- `read_line` meets its contract: a line is known by its first field, and stands or not. Assumes nothing.
-use Rattle.std.proofs.Common.{◌≡◌, sym, ◌∙◌, ap, rules, arith}
+use Rattle.std.proofs.Common.{rules}
 use Rattle.read_line.proofs.Arms.{unknown-is, done-unknown, done-misplaced, done-read}
 use Rattle.read_line.proofs.read_line.Goals as goal
 

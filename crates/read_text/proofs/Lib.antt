@@ -1,0 +1,2 @@
+-- Laws on reading a text line by line.
+pub mod ReadOn
