@@ -1,9 +1,8 @@
 -- What is written from the tables of a run is the report of the definitions. Assumes a sound plan and at most 4,000
 -- entries.
 use Rattle.std.proofs.Common.{◌≡◌, refl, sym, ◌∙◌, ap, subst, ℕ, zero, suc, ◌+◌, ◌≤◌, ◌<◌, arith, cond}
-use Rattle.std.proofs.Common.{Bool, false, List, [], ◌∷◌, ◌++◌, length, get_or}
+use Rattle.std.proofs.Common.{Bool, List, [], ◌∷◌, ◌++◌, length, get_or}
 use lib.IntN.{pos}
-use Rattle.spec_text.specs.Bytes.{bytes}
 use Rattle.spec_format.specs.declared.Entry.{Entry}
 use Rattle.spec_format.specs.Plan.{Plan}
 use Rattle.spec_format.specs.Sound.{Sound}
@@ -15,7 +14,6 @@ use Rattle.spec_machine.specs.Ranges.{Ranges}
 use Rattle.spec_machine.proofs.ListsByPlace.{get_d_any}
 use Rattle.spec_ranges.proofs.Ranges.{in-range}
 use Rattle.spec_report.specs.declared.End.{End}
-use Rattle.spec_text.specs.WrittenLines.{line_of}
 use Rattle.spec_report.specs.Report.{joined, commit_lines, block_lines, open_lines, report, end_number, end_line}
 use Rattle.spec_report.specs.Outcomes.{written, end_of, end_of_run, run_outcome}
 use Rattle.step_cells.specs.declared.Registers.{Registers}

@@ -1,6 +1,6 @@
 -- A report is written out whole where it fits, and else not at all; its number and line. Assumes nothing.
-use Rattle.std.proofs.Common.{◌≡◌, refl, sym, ◌∙◌, ap, subst, ℕ, Bool, true, false, cond, List, length, arith}
-use Rattle.std.specs.Prelude.{Option, Some, None, leb}
+use Rattle.std.proofs.Common.{◌≡◌, refl, sym, ◌∙◌, subst, ℕ, Bool, true, false, List, length}
+use Rattle.std.specs.Prelude.{Some, None, leb}
 use Rattle.spec_report.specs.declared.End.{End}
 use Rattle.spec_report.specs.Report.{end_number, end_line}
 use Rattle.spec_report.specs.Outcomes.{Outcome, refused, written, left}
