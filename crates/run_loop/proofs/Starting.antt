@@ -2,7 +2,7 @@
 use Prim.Native.Nat.{ℕ, zero, suc, ◌≤◌}
 use mathlib.Core.Path.{◌≡◌, refl, sym, ◌∙◌, ap, subst}
 use mathlib.Core.Bool.{false}
-use mathlib.Core.List.{List, []}
+use mathlib.Core.List.{List}
 use native.Mathlib.Omega.{arith}
 use Rattle.std.specs.Prelude.{None}
 use lib.ListN.{length, get_or, replicate, length-replicate}
@@ -13,10 +13,10 @@ use Rattle.spec_machine.specs.Machine.{Machine}
 use Rattle.spec_machine.specs.History.{begun, run_of}
 use Rattle.step_cells.specs.declared.Tables.{Tables}
 use Rattle.step_cells.specs.declared.Book.{Book}
-use Rattle.step_cells.specs.Tables.{idle, machine_of}
+use Rattle.step_cells.specs.Tables.{idle}
 use Rattle.run_judge.specs.WhoRuns.{WhoRuns}
 use Rattle.run_judge.proofs.WhoRuns.{who-runs-opening}
-use Rattle.run_loop.specs.RunReached.{Reached, Starts}
+use Rattle.run_loop.specs.RunReached.{Starts}
 use Rattle.run_opening.specs.Opened.{Opened}
 
 -- Past the end too, a list of one value has it.

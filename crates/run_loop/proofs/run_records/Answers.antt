@@ -3,7 +3,7 @@
 use Prim.Native.Nat.{◌<◌}
 use mathlib.Core.Path.{◌≡◌}
 use native.Mathlib.Omega.{arith}
-use lib.ListN.{length, take}
+use lib.ListN.{take}
 use lib.Seq.{take_all}
 use Rattle.run_loop.proofs.OneAfterAnother as law
 use Rattle.run_loop.proofs.run_records.Goals as goal
