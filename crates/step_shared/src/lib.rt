@@ -1,5 +1,5 @@
-// What the items of the step list share: the tests that they make on the shared cells, a job's registers at the opening
-// and on to another place, and the effects that items give.
+// What the items of the step list share: what they read and test of the tables, a job's registers at the opening and on
+// to another place, and the effects that items give.
 #![tactic(auto)]
 
 ghost use Rattle.std.specs.Prelude.{◌≡◌, ◌&&◌, ℕ, ◌≤◌, ◌<◌, ℤ, pos, get_or};
