@@ -62,7 +62,8 @@ fn write(plan: &Plan, notes: &[Note], end: End, buffer: &mut [u8]) -> WrittenEnd
 // What is written after a run of the notes' single entries that ended so: the text, unless the run is refused. The
 // notes are overwritten.
 pub fn write_after(plan: &Plan, notes: &mut Notes, end: End, buffer: &mut [u8]) -> WrittenEnd
-    requires { Sound plan.now × (length (listed_in notes.old.items) ≤ 4000) }
+    requires sound { Sound plan.now }
+    requires few { length (listed_in notes.old.items) ≤ 4000 }
     ensures { WrittenOut (written_at end (text_of plan.now (entries_in (listed_in notes.old.items))))
         buffer.old result buffer.new }
 {
