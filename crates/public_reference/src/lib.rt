@@ -7,26 +7,32 @@ ghost use Rattle.spec_report.specs.Outcomes.{run_text, handed, left};
 ghost use Rattle.report_ending.specs.Finishing.{ended_of};
 ghost use Rattle.public_reference.specs.Answers.{answer_of};
 
-use read_tables::{NOTE_PLACES, PLAN_PLACES};
+use read_line_promises::Progress;
 use report_ending::Ended;
 use spec_format::{Form, Verdict};
 
 // A number of the table with its line: 0 with the count of all lines, or a refusal with the line where it was met.
 #[repr(C)]
-#[derive(Clone, Copy)]
+#[derive(Clone, Copy, PartialEq, Eq)]
 pub struct Answer {
     pub number: usize,
     pub line: usize,
+}
+
+// A verdict by its number and line.
+impl From<Verdict> for Answer {
+    ghost from_gives = { λ verdict r. r ≡ answer_of verdict };
+
+    fn from(verdict: Verdict) -> Answer {
+        answer_of(verdict)
+    }
 }
 
 // Judges a text by the numbers 1 to 10, 16 and 17. In a text of the form PlanAlone an entry cannot stand.
 pub fn check(text: &[u8], form: Form) -> Verdict
     ensures { result ≡ verdict_of (reading form text.now) }
 {
-    let mut plan = [0u32; PLAN_PLACES];
-    let mut notes = [0u32; NOTE_PLACES];
-    let parsed = read_text::read(text, form, &mut plan, &mut notes);
-    parsed.verdict
+    read_text::read(text, form, &mut Progress::blank())
 }
 
 // A verdict by its number and line.
@@ -34,13 +40,13 @@ pub fn answer_of(verdict: Verdict) -> Answer
     ensures { result ≡ answer_of verdict }
 {
     match verdict {
-        Verdict::Accepted(lines) => Answer {
+        Ok(lines) => Answer {
             number: 0,
             line: lines,
         },
-        Verdict::Refused(fault, line) => Answer {
-            number: report_ending::fault_number(fault),
-            line,
+        Err(refused) => Answer {
+            number: report_ending::fault_number(refused.fault),
+            line: refused.line,
         },
     }
 }
@@ -51,8 +57,7 @@ pub fn run(text: &[u8], buffer: &mut [u8]) -> Ended
     ensures value { result ≡ ended_of (run_text text.now) buffer.old }
     ensures buffer_after { buffer.new ≡ left (run_text text.now) buffer.old }
 {
-    let finished = whole_text::run_text(text, buffer);
-    report_ending::ended_of(finished)
+    whole_text::run_text(text, buffer).into()
 }
 
 // Runs a text, and hands back the written part of the buffer, empty where no report is written.
@@ -61,6 +66,5 @@ pub fn run_part<'a>(text: &[u8], buffer: &'a mut [u8]) -> &'a mut [u8]
     ensures ref_ptr_value { result.ref_ptr ≡ buffer.entry.ref_ptr }
 {
     let ended = run(text, buffer);
-    let length = ended.length;
-    &mut buffer[..length]
+    &mut buffer[..ended.length]
 }

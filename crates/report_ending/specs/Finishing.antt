@@ -1,6 +1,7 @@
 -- What an outcome is written out to, with a buffer lent, and its number and line. WrittenEnd and Ended are declared in
 -- src/lib.rt. Assumes nothing.
 use Rattle.std.specs.Prelude.{ℕ, ◌≡◌, List, length}
+use Rattle.spec_report.specs.declared.End.{End}
 use Rattle.spec_report.specs.Outcomes.{Outcome, end_with, handed, left}
 use Rattle.spec_report.specs.Report.{end_number, end_line}
 use Rattle.report_ending.specs.declared.WrittenEnd.{WrittenEnd}
@@ -11,6 +12,10 @@ pub record WrittenOut (o : Outcome) (before : List ℕ) (r : WrittenEnd) (after 
   pub end_is : r.end ≡ end_with o before
   pub length_is : r.length ≡ length (handed o before)
   pub left_is : after ≡ left o before
+
+-- A call ended so, and nothing is written.
+abbrev pub nothing_written : End → WrittenEnd
+nothing_written e = record { end = e; length = 0 }
 
 -- How a run ended, by its number and line.
 abbrev pub ended_by : WrittenEnd → Ended

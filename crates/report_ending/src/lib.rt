@@ -2,26 +2,44 @@
 // for it.
 #![tactic(auto)]
 
-ghost use Rattle.std.specs.Prelude.{◌≡◌, [], ◌≤◌};
+ghost use Rattle.std.specs.Prelude.{◌≡◌, ◌≤◌};
 ghost use Rattle.spec_format.specs.Faults.{number_of};
 ghost use Rattle.spec_report.specs.Report.{largest_number, end_number, end_line, end_entry};
 ghost use Rattle.spec_report.specs.Outcomes.{written, end_of};
-ghost use Rattle.step_cells.specs.Tables.{lent};
-ghost use Rattle.run_judge.specs.Rulings.{halt_of};
 ghost use Rattle.report_writer.specs.Writing.{Reportable, report_bytes};
-ghost use Rattle.report_ending.specs.Finishing.{WrittenOut, ended_by};
+ghost use Rattle.report_ending.specs.Finishing.{WrittenOut, nothing_written, ended_by};
 
-use read_tables::PLAN_PLACES;
-use report_writer::WrittenLength;
-use spec_format::Fault;
+use read_tables::Plan;
+use spec_format::{Fault, LineFault};
+use spec_machine::Refusal;
 use spec_report::End;
-use step_cells::CELL_PLACES;
+use step_cells::Tables;
 
 // How a call ended, and how many bytes it has written: the length of the report, or of a written text.
 #[derive(Clone, Copy)]
 pub struct WrittenEnd {
     pub end: End,
     pub length: usize,
+}
+
+impl WrittenEnd {
+    // A call that has written nothing ended so.
+    pub fn nothing(end: End) -> WrittenEnd
+        ensures { result ≡ nothing_written end }
+    {
+        WrittenEnd { end, length: 0 }
+    }
+}
+
+// A refused text ends with its fault, and nothing is written.
+impl From<LineFault> for WrittenEnd {
+    ghost use Rattle.spec_report.specs.declared.End.{End};
+
+    ghost from_gives = { λ refused r. r ≡ nothing_written (End.Faulty refused.fault refused.line) };
+
+    fn from(refused: LineFault) -> WrittenEnd {
+        WrittenEnd::nothing(End::Faulty(refused.fault, refused.line))
+    }
 }
 
 // How a call ended: its number in the table with its line, and how many bytes it has written: the length of the report,
@@ -32,6 +50,19 @@ pub struct Ended {
     pub number: usize,
     pub line: usize,
     pub length: usize,
+}
+
+// How a call ended, by its number and line.
+impl From<WrittenEnd> for Ended {
+    ghost from_gives = { λ finished r. r ≡ ended_by finished };
+
+    fn from(finished: WrittenEnd) -> Ended {
+        Ended {
+            number: end_number(finished.end),
+            line: end_line(finished.end),
+            length: finished.length,
+        }
+    }
 }
 
 // The number of a fault in the table.
@@ -59,9 +90,9 @@ pub fn end_number(end: End) -> usize
     ensures { (result ≡ end_number end) × (result ≤ largest_number) }
 {
     match end {
-        End::Accepted(n) => 0,
-        End::Faulty(f, n) => fault_number(f),
-        End::Refused(r, i, n) => run_judge::refusal_number(r) as usize,
+        End::Accepted(_) => 0,
+        End::Faulty(fault, _) => fault_number(fault),
+        End::Refused(refusal, ..) => run_judge::refusal_number(refusal) as usize,
         End::NoRoom => 15,
     }
 }
@@ -71,9 +102,7 @@ pub fn end_line(end: End) -> usize
     ensures { result ≡ end_line end }
 {
     match end {
-        End::Accepted(n) => n,
-        End::Faulty(f, n) => n,
-        End::Refused(r, i, n) => n,
+        End::Accepted(line) | End::Faulty(_, line) | End::Refused(_, _, line) => line,
         End::NoRoom => 0,
     }
 }
@@ -83,71 +112,34 @@ pub fn end_entry(end: End) -> usize
     ensures { result ≡ end_entry end }
 {
     match end {
-        End::Accepted(n) => 0,
-        End::Faulty(f, n) => 0,
-        End::Refused(r, i, n) => i,
-        End::NoRoom => 0,
+        End::Refused(_, entry, _) => entry,
+        End::Accepted(_) | End::Faulty(..) | End::NoRoom => 0,
     }
 }
 
-// How a run ends: by the refusal that stopped it, with the entry's number and line, or accepted with a count.
-pub fn end_of(halt: u32, entry: usize, line: usize, count: usize) -> End
-    ensures { result ≡ end_of (halt_of halt) entry line count }
+// How a run ends: by the refusal that stopped it, with the entry's number and line, or accepted with a count. A refused
+// entry has a report too, so that neither end is an error.
+pub fn end_of(halt: Option<Refusal>, entry: usize, line: usize, count: usize) -> End
+    ensures { result ≡ end_of halt entry line count }
 {
-    if halt == 0 {
-        return End::Accepted(count);
-    }
-    End::Refused(run_judge::refusal_numbered(halt), entry, line)
-}
-
-// How a run ended, by its number and line.
-pub fn ended_of(finished: WrittenEnd) -> Ended
-    ensures { result ≡ ended_by finished }
-{
-    let end = finished.end;
-    Ended {
-        number: end_number(end),
-        line: end_line(end),
-        length: finished.length,
+    match halt {
+        None => End::Accepted(count),
+        Some(refusal) => End::Refused(refusal, entry, line),
     }
 }
 
 // The report of a run whose entries have run is written, where there is room for it; 15 is decided here, last.
-pub fn finish(
-    buffer: &mut [u8],
-    plan: &[u32; PLAN_PLACES],
-    cells: &[u32; CELL_PLACES],
-    stat: &[i32; 17],
-    store: &[u32],
-    commits: &[[u32; 3]; 4000],
-    end: End,
-) -> WrittenEnd
-    requires reportable { Reportable plan.now (lent cells.now stat.now store.now [] [] [] commits.now) }
+pub fn finish(buffer: &mut [u8], plan: &Plan, tables: &Tables, end: End) -> WrittenEnd
+    requires reportable { Reportable plan.now tables.now }
     requires end_bound { end_line end ≤ 65536 }
     ensures { WrittenOut
-        (written end
-        (report_bytes plan.now
-        (lent cells.now stat.now store.now [] [] [] commits.now)
-        (end_number end) (end_line end)))
+        (written end (report_bytes plan.now tables.now (end_number end) (end_line end)))
         buffer.old result buffer.new }
 {
-    let number = end_number(end);
-    let line = end_line(end);
-    let written = report_writer::write_report(
-        buffer,
-        plan,
-        cells,
-        stat,
-        store,
-        commits,
-        number as u32,
-        line as u32,
-    );
-    match written {
-        WrittenLength::Whole(length) => WrittenEnd { end, length },
-        WrittenLength::NoRoom => WrittenEnd {
-            end: End::NoRoom,
-            length: 0,
-        },
+    let number = end_number(end) as u32;
+    let line = end_line(end) as u32;
+    match report_writer::write_report(buffer, plan, tables, number, line) {
+        Some(length) => WrittenEnd { end, length },
+        None => WrittenEnd::nothing(End::NoRoom),
     }
 }

@@ -1,10 +1,7 @@
 -- A block's words as a part of the store. Assumes nothing.
-use Prim.Native.Nat.{ℕ, zero, suc, ◌+◌, ◌-◌, ◌*◌, ◌≤◌}
-use mathlib.Core.Path.{◌≡◌, refl, ◌∙◌}
-use mathlib.Core.List.{List}
-use native.Mathlib.Omega.{arith}
-use lib.ListN.{length, get_or, take, drop, length-drop}
-use lib.Seq.{take-suc, get_or-drop}
+use Rattle.std.proofs.Common.{◌≡◌, refl, ◌∙◌, ◌+◌, ◌-◌, ◌*◌, ◌≤◌, ℕ, zero, suc, arith, List, length, get_or, take, drop}
+use Rattle.std.proofs.Common.{length-drop}
+use Rattle.std.proofs.Math.Seq.{take-suc, get_or-drop}
 use Rattle.spec_format.specs.Plan.{tabulate}
 use Rattle.spec_machine.specs.Machine.{block_in}
 
@@ -12,8 +9,8 @@ use Rattle.spec_machine.specs.Machine.{block_in}
 part-tabulate : (n k : ℕ) (xs : List ℕ) → k + n ≤ length xs → take n (drop k xs) ≡ tabulate n (λ i. get_or xs (k + i) 0)
 part-tabulate zero k xs h = refl
 part-tabulate (suc n) k xs h =
-    let e = take-suc (drop k xs) n 0 (rw (length-drop k xs) (omega arith)) in
-    e ∙ rw (part-tabulate n k xs (omega arith), get_or-drop k xs n 0)
+    take-suc (drop k xs) n 0 (omega (arith, length-drop k xs))
+    ∙ rw (part-tabulate n k xs (omega arith), get_or-drop k xs n 0) refl
 
 -- A block's words are a part of the store.
 pub block-part : (s b : ℕ) (store : List ℕ) → b * s + s ≤ length store

@@ -1,3 +1,2 @@
--- Laws that the proofs of this crate cite.
+-- The law that the proofs of this crate cite.
 pub mod BlockWords
-pub mod PrintedStatus

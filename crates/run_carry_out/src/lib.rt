@@ -15,6 +15,7 @@ use spec_machine::Version;
 use step_cells::{Change, Tables};
 
 // A change of job p, carried out.
+#[tactic(auto, using(crate::proofs::Carrying::works), unfolding(spec_machine::specs::Machine::stored))]
 pub fn carry_out(plan: &Plan, p: usize, s: Change, tables: &mut Tables)
     requires { Asks plan.now p s tables.old }
     ensures carried { Carried plan.now p s tables.old tables.new }

@@ -2,7 +2,7 @@
 // label.
 #![tactic(auto, unfolding(step_cells::specs::Effects::Does, spec_machine::specs::Steps::item))]
 
-ghost use Rattle.std.specs.Prelude.{◌≡◌, not, ◌&&◌, ◌||◌, ℕ, ◌≤◌, ◌<◌, ◌%◌, eqb, ℤ, pos, get_or};
+ghost use Rattle.std.specs.Prelude.{◌≡◌, not, ◌&&◌, ◌||◌, ℕ, ◌≤◌, ◌%◌, eqb, ℤ, pos, get_or};
 ghost use Rattle.spec_format.specs.Plan.{Plan, job_in};
 ghost use Rattle.spec_machine.specs.Status.{same_status};
 ghost use Rattle.step_cells.specs.Effects.{Does, StaysInside};

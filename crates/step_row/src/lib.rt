@@ -100,8 +100,8 @@ fn read_row(w: Registers, addr: [u32; 16], old: [u32; 16], new: [u32; 16]) -> Re
 // H38, read wid's address, old, new.
 pub fn h38(tables: &Tables, w: Registers) -> Effect
     requires names { Names w.wid × (w.j < 16) }
-    requires rows { (k i : ℕ) → (in_row tables.now.rows.addr k i < 16) × ((in_row tables.now.rows.old k i < most_numbers)
-        × (in_row tables.now.rows.new k i < most_numbers)) }
+    requires rows { (k i : ℕ) → (in_row tables.now.rows.addr k i < 16)
+        × ((in_row tables.now.rows.old k i < most_numbers) × (in_row tables.now.rows.new k i < most_numbers)) }
     ensures does { (plan : Plan) (p : ℕ) → Does Place.H38 plan tables.now p w result }
     ensures stays_inside { StaysInside result }
 {

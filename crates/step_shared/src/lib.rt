@@ -1,17 +1,17 @@
-// What the items of the step list share: the tests that they make on the shared cells, a job's registers at the opening
-// and on to another place, and the effects that items give.
+// What the items of the step list share: what they read and test of the tables, a job's registers at the opening and on
+// to another place, and the effects that items give.
 #![tactic(auto)]
 
 ghost use Rattle.std.specs.Prelude.{◌≡◌, ◌&&◌, ℕ, ◌≤◌, ◌<◌, ℤ, pos, get_or};
 ghost use Rattle.spec_machine.specs.Status.{same_status, undecided};
 ghost use Rattle.spec_machine.specs.Steps.{same_version};
-ghost use Rattle.step_cells.specs.Tables.{idle as atOpening};
+ghost use Rattle.step_cells.specs.Tables.{no_own, idle as atOpening};
 ghost use Rattle.step_shared.specs.Registers.{goto, quiet as quietly, storing as storingOne};
 ghost use Rattle.step_shared.specs.Registers.{doing as doingOne};
 
 use read_tables::Plan;
 use spec_machine::{Place, Version};
-use step_cells::{Change, Effect, Registers, Tables};
+use step_cells::{Change, Effect, Own, Registers, Tables};
 
 // V = ver, of a job's registers.
 #[tactic(auto, unfolding(spec_machine::specs::Steps::same_version))]
@@ -21,7 +21,16 @@ pub fn same_version(tables: &Tables, w: Registers) -> bool
     tables.v == w.ver
 }
 
-// Ann[r]. This and status_of take the array alone: a proof then knows its length, and that each of its numbers fits.
+// What job p keeps of its own. This, announced and status_of take an array alone: a proof then knows its length, and
+// that each of its numbers fits.
+pub fn own_of(own: &[Own; 16], p: usize) -> &Own
+    requires { p < 16 }
+    ensures { result.now ≡ get_or own.now p no_own }
+{
+    &own[p]
+}
+
+// Ann[r].
 pub fn announced(ann: &[u32; 8], r: usize) -> u32
     requires { r < 8 }
     ensures { (none : ℕ) → result ≡ get_or ann.now r none }

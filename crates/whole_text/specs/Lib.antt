@@ -1,2 +1,2 @@
--- What the functions that run a text ask.
+-- What running an accepted text asks.
 pub mod Reads

@@ -1,12 +1,10 @@
--- Which text the tables were read from. Assumes nothing.
+-- What an accepted text has given. Assumes nothing.
 use Rattle.std.specs.Prelude.{ℕ, ◌≡◌, List}
 use Rattle.spec_format.specs.declared.Form.{Form}
-use Rattle.spec_format.specs.declared.Verdict.{Verdict}
-use Rattle.spec_format.specs.Reading.{reading}
-use Rattle.read_text.specs.declared.Parsed.{Parsed}
-use Rattle.read_text.specs.Readings.{ReadTo}
+use Rattle.spec_format.specs.Plan.{Plan, Listed}
+use Rattle.spec_format.specs.Reading.{accepted, reading}
 
--- An accepted text was read to this into these tables.
-pub record Reads (text : List ℕ) (plan notes : List ℕ) (parsed : Parsed) (lines : ℕ) : Type 0 where
-  pub verdict_is : parsed.verdict ≡ Verdict.Accepted lines
-  pub read : ReadTo (reading Form.Schedule text) parsed plan notes
+-- Some text, a plan with its schedule, was accepted, and has given this plan, these single entries and so many lines.
+pub record Reads (plan : Plan) (ls : List Listed) (lines : ℕ) : Type 0 where
+  pub text : List ℕ
+  pub gives : reading Form.Schedule text ≡ accepted plan ls lines

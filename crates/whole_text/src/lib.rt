@@ -1,88 +1,54 @@
 // A whole text, run: it is read, its entries run one after another, and the report is written into the lent buffer.
 #![tactic(auto)]
 
-ghost use Rattle.std.specs.Prelude.{◌≡◌, List, ℕ, length};
-ghost use Rattle.read_tables.specs.PlanTable.{empty_plan};
-ghost use Rattle.read_tables.specs.NoteTable.{note_places};
-ghost use Rattle.spec_report.specs.Outcomes.{run_text};
+ghost use Rattle.std.specs.Prelude.{◌≡◌, MatchOption};
+ghost use Rattle.spec_format.specs.Plan.{entries_in};
+ghost use Rattle.spec_report.specs.Outcomes.{line_in, run_outcome, run_text};
+ghost use Rattle.read_tables.specs.Notes.{listed_in};
 ghost use Rattle.report_ending.specs.Finishing.{WrittenOut};
 ghost use Rattle.whole_text.specs.Reads.{Reads};
 
-use read_tables::{NOTE_PLACES, PLAN_PLACES};
-use read_text::Parsed;
+use read_line_promises::Progress;
+use read_tables::{Notes, Plan};
 use report_ending::WrittenEnd;
-use spec_format::{Form, Verdict};
-use spec_report::End;
-use step_cells::CELL_PLACES;
+use spec_format::Form;
+use spec_machine::Refusal;
 
-// An accepted text is run. The machine's tables are made here, and lent: the store is zero until the opening memory is
-// put in, and the rows are empty.
-fn run_plan(
-    plan: &[u32; PLAN_PLACES],
-    notes: &[u32; NOTE_PLACES],
-    parsed: Parsed,
-    lines: usize,
-    buffer: &mut [u8],
-) -> WrittenEnd
-    requires { (text : List ℕ) × Reads text plan.now notes.now parsed lines }
-    ensures { (text : List ℕ) → Reads text plan.now notes.now parsed lines
-        → WrittenOut (run_text text) buffer.old result buffer.new }
+// The line of the entry that has stopped a run behind so many accepted ones; 0 where none has, and then the notes are
+// not looked through.
+pub fn refused_line(notes: &Notes, halt: Option<Refusal>, accepted: usize) -> usize
+    ensures { MatchOption halt (result ≡ 0) (λ _. result ≡ line_in (listed_in notes.now.items) accepted) }
 {
-    let mut cells = [0u32; CELL_PLACES];
-    let mut stat = [0i32; 17];
-    let mut store = [0u32; 2304];
-    let empty = [0u32; 16];
-    let mut addr = [empty; 16];
-    let mut old = [empty; 16];
-    let mut new = [empty; 16];
-    let none = [0u32; 3];
-    let mut commits = [none; 4000];
-    run_opening::open(plan, &mut cells, &mut stat, &mut store);
-    let count = parsed.entries;
-    run_entry_list::run_list(
-        read_single_entries::records_of(notes, parsed.notes),
-        count,
-        plan,
-        &mut cells,
-        &mut stat,
-        &mut store,
-        &mut addr,
-        &mut old,
-        &mut new,
-        &mut commits,
-    );
-    let accepted = step_cells::entries(&cells) as usize;
-    let line = read_single_entries::line_in(notes, parsed.notes, count, accepted);
-    let end = report_ending::end_of(step_cells::halt(&cells), accepted + 1, line, lines);
-    report_ending::finish(buffer, plan, &cells, &stat, &store, &commits, end)
-}
-
-// A text is read into the tables, and run. The whole text is checked for 1 to 10, 16 and 17 before any entry runs.
-fn run_read(
-    text: &[u8],
-    plan: &mut [u32; PLAN_PLACES],
-    notes: &mut [u32; NOTE_PLACES],
-    buffer: &mut [u8],
-) -> WrittenEnd
-    requires { (plan.old ≡ empty_plan) × (length notes.old ≡ note_places) }
-    ensures { WrittenOut (run_text text.now) buffer.old result buffer.new }
-{
-    let parsed = read_text::read(text, Form::Schedule, plan, notes);
-    let verdict = parsed.verdict;
-    match verdict {
-        Verdict::Refused(fault, line) => WrittenEnd {
-            end: End::Faulty(fault, line),
-            length: 0,
-        },
-        Verdict::Accepted(lines) => run_plan(plan, notes, parsed, lines, buffer),
+    match halt {
+        None => 0,
+        Some(_) => read_single_entries::line_in(notes, accepted),
     }
 }
 
-// Runs a text. The tables are made here, and lent.
+// The plan and the notes of an accepted text are run. The machine's tables are made here.
+fn run_plan(plan: &Plan, notes: &Notes, lines: usize, buffer: &mut [u8]) -> WrittenEnd
+    requires { Reads plan.now (listed_in notes.now.items) lines }
+    ensures { WrittenOut
+        (run_outcome plan.now (entries_in (listed_in notes.now.items)) (line_in (listed_in notes.now.items)) lines)
+        buffer.old result buffer.new }
+{
+    let mut tables = run_opening::open(plan);
+    let records = read_single_entries::records_of(notes);
+    run_loop::run_records(records.as_slice(), plan, &mut tables);
+    let halt = tables.book.halt;
+    let accepted = tables.book.entries as usize;
+    let line = refused_line(notes, halt, accepted);
+    let end = report_ending::end_of(halt, accepted + 1, line, lines);
+    report_ending::finish(buffer, plan, &tables, end)
+}
+
+// Runs a text. The whole text is checked for 1 to 10, 16 and 17 before any entry runs.
 pub fn run_text(text: &[u8], buffer: &mut [u8]) -> WrittenEnd
     ensures { WrittenOut (run_text text.now) buffer.old result buffer.new }
 {
-    let mut plan = [0u32; PLAN_PLACES];
-    let mut notes = [0u32; NOTE_PLACES];
-    run_read(text, &mut plan, &mut notes, buffer)
+    let mut progress = Progress::blank();
+    match read_text::read(text, Form::Schedule, &mut progress) {
+        Ok(lines) => run_plan(&progress.plan, &progress.notes, lines, buffer),
+        Err(refused) => refused.into(),
+    }
 }

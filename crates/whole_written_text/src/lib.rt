@@ -2,65 +2,46 @@
 // its single entries is written into the lent buffer.
 #![tactic(auto)]
 
-ghost use Rattle.std.specs.Prelude.{◌≡◌, List, ℕ, length};
-ghost use Rattle.read_tables.specs.PlanTable.{empty_plan};
-ghost use Rattle.read_tables.specs.NoteTable.{note_places};
-ghost use Rattle.spec_plan_text.specs.Writing.{write_text};
+ghost use Rattle.spec_format.specs.Plan.{entries_in};
+ghost use Rattle.spec_plan_text.specs.PlanText.{text_of};
+ghost use Rattle.spec_plan_text.specs.Writing.{written_at, write_text};
+ghost use Rattle.spec_machine.specs.History.{run_of};
+ghost use Rattle.spec_report.specs.Outcomes.{end_of_run, line_in};
+ghost use Rattle.read_tables.specs.Notes.{listed_in};
 ghost use Rattle.report_ending.specs.Finishing.{WrittenOut};
 ghost use Rattle.whole_text.specs.Reads.{Reads};
 
-use read_tables::{NOTE_PLACES, PLAN_PLACES};
-use read_text::Parsed;
+use read_line_promises::Progress;
+use read_tables::{Notes, Plan};
 use report_ending::WrittenEnd;
-use spec_format::{Form, Verdict};
-use spec_report::End;
+use spec_format::Form;
 
-// An accepted text is run, once, and written.
-fn write_plan(
-    plan: &[u32; PLAN_PLACES],
-    notes: &mut [u32; NOTE_PLACES],
-    parsed: Parsed,
-    lines: usize,
-    buffer: &mut [u8],
-) -> WrittenEnd
-    requires { (text : List ℕ) × Reads text plan.now notes.old parsed lines }
-    ensures { (text : List ℕ) → Reads text plan.now notes.old parsed lines
-        → WrittenOut (write_text text) buffer.old result buffer.new }
+// The plan and the notes of an accepted text are run, once, and written. The notes are overwritten.
+fn write_plan(plan: &Plan, notes: &mut Notes, lines: usize, buffer: &mut [u8]) -> WrittenEnd
+    requires { Reads plan.now (listed_in notes.old.items) lines }
+    ensures { WrittenOut
+        (written_at (end_of_run (run_of plan.now (entries_in (listed_in notes.old.items))) (line_in (listed_in notes.old.items)) lines)
+        (text_of plan.now (entries_in (listed_in notes.old.items))))
+        buffer.old result buffer.new }
 {
-    let count = parsed.entries;
-    let noted = parsed.notes;
-    let ran = run_from_opening::run_notes(plan, notes, noted, count);
-    let line = read_single_entries::line_in(notes, noted, count, ran.entries);
+    let ran = run_from_opening::run_notes(plan, notes);
+    let line = whole_text::refused_line(notes, ran.halt, ran.entries);
     let end = report_ending::end_of(ran.halt, ran.entries + 1, line, lines);
-    whole_written_end::write_after(plan, notes, noted, count, end, buffer)
+    whole_written_end::write_after(plan, notes, end, buffer)
 }
 
-// A text is read into the tables, and written.
-fn write_read(
-    text: &[u8],
-    plan: &mut [u32; PLAN_PLACES],
-    notes: &mut [u32; NOTE_PLACES],
-    buffer: &mut [u8],
-) -> WrittenEnd
-    requires { (plan.old ≡ empty_plan) × (length notes.old ≡ note_places) }
-    ensures { WrittenOut (write_text text.now) buffer.old result buffer.new }
-{
-    let parsed = read_text::read(text, Form::Schedule, plan, notes);
-    let verdict = parsed.verdict;
-    match verdict {
-        Verdict::Refused(fault, line) => WrittenEnd {
-            end: End::Faulty(fault, line),
-            length: 0,
-        },
-        Verdict::Accepted(lines) => write_plan(plan, notes, parsed, lines, buffer),
-    }
-}
-
-// Writes a text. The tables are made here, and lent.
+// Writes a text.
 pub fn write_text(text: &[u8], buffer: &mut [u8]) -> WrittenEnd
     ensures { WrittenOut (write_text text.now) buffer.old result buffer.new }
 {
-    let mut plan = [0u32; PLAN_PLACES];
-    let mut notes = [0u32; NOTE_PLACES];
-    write_read(text, &mut plan, &mut notes, buffer)
+    let progress = &mut Progress::blank();
+    let lines = match read_text::read(text, Form::Schedule, progress) {
+        Ok(lines) => lines,
+        Err(refused) => return refused.into(),
+    };
+    let finished = write_plan(&progress.plan, &mut progress.notes, lines, buffer);
+    // The notes that were read are overwritten.
+    progress.notes.clear();
+    progress.entries = 0;
+    finished
 }

@@ -1,7 +1,5 @@
 -- `put_block` writes a part of the store. Assumes nothing.
-use Prim.Native.Nat.{◌+◌, ◌*◌, ◌≤◌}
-use mathlib.Core.Path.{ap}
-use native.Mathlib.Omega.{arith}
+use Rattle.std.proofs.Common.{ap, arith}
 use Rattle.spec_text.specs.Bytes.{bytes}
 use Rattle.spec_text.specs.WrittenLines.{line_of}
 use Rattle.report_bytes.proofs.Writes.{widen, renamed}
@@ -11,7 +9,6 @@ use Rattle.report_lines.proofs.put_block.Goals as goal
 
 pub returns : goal.returns
 returns c =
-    let inside : c.args.number * c.args.words + c.args.words ≤ 2304 =
-    block_inside c.args.words c.args.number (omega arith) (omega arith) in
+    let inside = block_inside c.args.words c.args.number (omega arith) (omega arith) in
     let e = block-part c.args.words c.args.number c.args.store.now (omega (arith, inside)) in
     renamed _ (ap (line_of (bytes "block")) e) (widen 200 (omega arith) c.put_line.ensures)

@@ -1,12 +1,9 @@
-use Prim.Native.Nat.{ℕ, ◌-◌, ◌*◌, ◌≤◌}
-use mathlib.Core.List.{List}
-use lib.ListN.{get_or}
+use Rattle.std.proofs.Common.{ℕ, ◌*◌, List, get_or}
 use Rattle.spec_text.specs.Bytes.{bytes}
 use Rattle.spec_format.specs.declared.Sizes.{Sizes}
 use Rattle.spec_machine.specs.Machine.{block_in}
 use Rattle.spec_text.specs.WrittenLines.{line_of}
 use Rattle.spec_report.specs.Report.{joined}
-use Rattle.step_cells.specs.CellTable.{places, bank_at}
 use Rattle.report_bytes.specs.Writes.{Writes}
 use Rattle.report_lines.proofs.put_blocks.Given as goal
 
@@ -16,10 +13,4 @@ one sizes bank store b = line_of (bytes "block") (block_in sizes.words store (ge
 
 abbrev pub invariant-loop-b : goal.invariant-loop-b
 invariant-loop-b l =
-    (l.b ≤ l.sizes.blocks)
-    × Writes (joined l.b (one l.sizes (places l.cells bank_at 16) l.store)) (200 * l.b)
-    l.at l.initial.buffer l.next l.buffer
-
-abbrev pub decreases-loop-b : goal.decreases-loop-b
-decreases-loop-b l =
-    l.sizes.blocks - l.b
+    Writes (joined l.b (one l.sizes l.tables.bank l.tables.store)) (200 * l.b) l.at l.initial.buffer l.next l.buffer

@@ -1,30 +1,22 @@
--- `put_commits` writes a line for each row. Assumes nothing.
-use mathlib.Core.Path.{◌≡◌, refl, sym, ◌∙◌}
-use mathlib.Core.List.{[], append-nil}
-use native.Mathlib.Omega.{arith}
-use lib.ListN.{take}
-use Rattle.spec_text.specs.Bytes.{bytes}
-use Rattle.spec_text.specs.WrittenLines.{line_of}
-use Rattle.spec_report.specs.Report.{joined}
-use Rattle.report_lines.specs.ReportLines.{row_lines}
-use Rattle.report_bytes.proofs.Writes.{nothing, once_more, renamed}
-use Rattle.report_bytes.proofs.LoopParts.{joined_of}
+-- `put_commits` writes a line for each commit. Assumes nothing.
+use Rattle.std.proofs.Common.{◌≡◌, ◌<◌, ◌+◌, ◌∙◌, ap, sym, ℕ, List, [], ◌++◌, length, get_or, take, arith}
+use Rattle.std.proofs.lemmas.List.{take_more, flat_map_more}
+use Rattle.step_cells.specs.declared.Commit.{Commit}
+use Rattle.report_bytes.proofs.Writes.{nothing, then, widen, renamed}
+use Rattle.report_lines.specs.ReportLines.{row_line, row_lines}
 use Rattle.report_lines.proofs.put_commits.Goals as goal
-use Rattle.report_lines.proofs.put_commits.Invariants.{one}
 
-pub loop-i-init : goal.loop-i-init
-loop-i-init c = (omega arith, nothing _ _)
+-- One commit more is one line more.
+lines_more : (rows : List Commit) (i : ℕ) (d : Commit) → i < length rows
+    → row_lines (take i rows) ++ row_line (get_or rows i d) ≡ row_lines (take (i + 1) rows)
+lines_more rows i d h =
+    flat_map_more row_line [] (take i rows) (get_or rows i d) ∙ sym (ap row_lines (take_more rows i d h))
 
-pub loop-i-preserved : goal.loop-i-preserved
-loop-i-preserved c =
-    let line = one c.args.commits.now in
-    (omega arith, once_more c.loop-i.i line c.loop-i.invariant.1 c.put_commit-next.ensures)
+pub loop-row-init : goal.loop-row-init
+loop-row-init c = nothing _ _
 
-pub returns : goal.returns
-returns c =
-    let e : joined c.args.n (one c.args.commits.now) ≡ row_lines (take c.args.n c.args.commits.now) =
-    sym (append-nil (joined c.args.n (one c.args.commits.now)))
-    ∙ joined_of row_lines (line_of (bytes "commit")) [] [] refl (λ x xs. refl) c.args.n c.args.commits.now (omega arith)
-    in
-    let i : c.loop-i.i ≡ c.args.n = omega arith in
-    renamed (row_lines (take c.args.n c.args.commits.now)) e (rw i at c.loop-i.invariant.1)
+pub loop-row-preserved : goal.loop-row-preserved
+loop-row-preserved c =
+    let none : Commit = record { entry = 0; job = 0; update = 0 } in
+    renamed _ (lines_more c.args.commits.now c.loop-row.row-index none (omega arith))
+    (widen _ (omega arith) (then c.loop-row.invariant c.put_commit-next.ensures))

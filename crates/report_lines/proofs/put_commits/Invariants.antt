@@ -1,20 +1,8 @@
-use Prim.Native.Nat.{ℕ, ◌-◌, ◌*◌, ◌≤◌}
-use mathlib.Core.List.{List, []}
-use lib.ListN.{get_or}
-use Rattle.spec_text.specs.Bytes.{bytes}
-use Rattle.spec_text.specs.WrittenLines.{line_of}
-use Rattle.spec_report.specs.Report.{joined}
+use Rattle.std.proofs.Common.{◌*◌, take}
 use Rattle.report_bytes.specs.Writes.{Writes}
+use Rattle.report_lines.specs.ReportLines.{row_lines}
 use Rattle.report_lines.proofs.put_commits.Given as goal
 
--- The line of the row at a place.
-abbrev pub one : List (List ℕ) → ℕ → List ℕ
-one commits i = line_of (bytes "commit") (get_or commits i [])
-
-abbrev pub invariant-loop-i : goal.invariant-loop-i
-invariant-loop-i l =
-    (l.i ≤ l.n) × Writes (joined l.i (one l.commits)) (40 * l.i) l.at l.initial.buffer l.next l.buffer
-
-abbrev pub decreases-loop-i : goal.decreases-loop-i
-decreases-loop-i l =
-    l.n - l.i
+abbrev pub invariant-loop-row : goal.invariant-loop-row
+invariant-loop-row l =
+    Writes (row_lines (take l.row-index l.commits)) (40 * l.row-index) l.at l.initial.buffer l.next l.buffer

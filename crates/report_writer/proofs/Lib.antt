@@ -1,2 +1,0 @@
--- The law that the proofs of this crate cite.
-pub mod Fitting

@@ -1,2 +1,0 @@
--- The laws of an accepted text that is written.
-pub mod AcceptedWritten
