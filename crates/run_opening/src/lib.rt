@@ -45,8 +45,8 @@ fn open_own(own: &mut [Own; 16], copies: usize)
 }
 
 // "V is (0, false); every announcement Ann is N; every status is N, and Stat[N] is N always; Bank[k] is NC + k": blank
-// tables filled as at the opening of a plan, with the opening memory behind the copy blocks. Apart from `open`, so that
-// the tables stand on the stack once, in the caller of `open`, and are not copied there.
+// tables filled as at the opening of a plan, with the opening memory behind the copy blocks. Apart from `open`, so
+// that the tables stand on the stack once, in the caller of `open`, and are not copied there.
 #[inline(never)]
 fn fill(plan: &Plan, tables: &mut Tables)
     requires sound { Sound plan.now }

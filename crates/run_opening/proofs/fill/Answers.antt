@@ -15,7 +15,8 @@ returns c =
     let memory : put_mid start (start + length plan.words - start) (replicate 2304 0) c.copy_from_slice.new.self
     ≡ opening_store plan
     = put_mid-paste start (start + length plan.words - start) (replicate 2304 0) c.copy_from_slice.new.self
-    plan.words (length plan.words) (c.copy_from_slice.ensures.after ∙ c.words-memory.ensures.value) (omega arith) refl in
+    plan.words (length plan.words) (c.copy_from_slice.ensures.after ∙ c.words-memory.ensures.value) (omega arith)
+    refl in
     rw (
       c.requires.blank,
       c.open_bank.ensures,
