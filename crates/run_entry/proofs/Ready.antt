@@ -169,7 +169,7 @@ module _ {plan : Plan} {ws : List Registers} {x : Tables} (k : Kept plan ws x) w
     pub ready : Ready plan p w x
     ready =
         record {
-          plan = plan-fits p few;
+          fits = plan-fits p few;
           cells = cells_fit;
           registers = registers-fit;
           rows = λ j i. (k.ranges.rows.addr j i, (k.ranges.rows.old j i, k.ranges.rows.new j i));
