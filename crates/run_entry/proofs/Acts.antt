@@ -1,5 +1,5 @@
--- What a call, an item and a refusal make of the tables is what acting on the entry promises. Assumes what Kept says of
--- the tables.
+-- What a call, an item and a refusal make of the tables is what acting on the entry promises. Assumes what Kept says
+-- of the tables.
 use Rattle.std.proofs.Common.{◌≡◌, refl, sym, ◌∙◌, ap, subst, ◌≢◌, ℕ, ◌+◌, ◌≤◌, ◌<◌, arith}
 use Rattle.std.proofs.Common.{Bool, true, false, not, cond, eqb, List, [], ◌∷◌, ◌++◌, append-nil, length, get_or, set}
 use Rattle.std.proofs.Common.{length-append, length-set, get_or-set_same, get_or-set_other, Option, Some, None}
@@ -323,7 +323,8 @@ module _ {plan : Plan} {ws : List Registers} {x : Tables} (k : Kept plan ws x) (
   unfolding acted
   step-acts =
       let t = told plan x p work.hid (not (is_active out.work.place)) commits in
-      let entries : y.book.entries ≡ x.book.entries + 1 = ap (λ (b : Book). b.entries) book ∙ ap (λ n. n + 1) t.entries in
+      let entries : y.book.entries ≡ x.book.entries + 1
+      = ap (λ (b : Book). b.entries) book ∙ ap (λ n. n + 1) t.entries in
       let rows : y.book.commits.items
       ≡ x.book.commits.items ++ row_of commits x.book.entries work.hid (own_of x work.hid).update
       = ap (λ (b : Book). b.commits.items) book ∙ t.rows in

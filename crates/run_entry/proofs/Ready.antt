@@ -1,4 +1,5 @@
--- The ranges of the machine, read off as the items of the step list ask for them. Assumes what Kept says of the tables.
+-- The ranges of the machine, read off as the items of the step list ask for them. Assumes what Kept says of the
+-- tables.
 use Rattle.std.proofs.Common.{◌≡◌, refl, ap, subst, ◌∙◌, ℕ, zero, suc, ◌*◌, ◌≤◌, ◌<◌, arith, div-lt_iff_lt-mul}
 use Rattle.std.proofs.Common.{true, false, ◌||◌, leb, leb-false, List, [], ◌∷◌, length, get_or, pos}
 use Rattle.spec_format.specs.declared.Move.{Move}

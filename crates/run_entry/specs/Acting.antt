@@ -67,8 +67,8 @@ pub record Kept (plan : Plan) (ws : List Registers) (x : Tables) : Type 0 where
 
 -- From tables x to tables y, the registers ws becoming ws', an entry was acted on that is judged so; `other` is the
 -- place of the first record of another kind.
-pub record Acts (plan : Plan) (j : Judgement) (other : Option ℕ) (ws : List Registers) (x : Tables) (ws' : List Registers)
-    (y : Tables) : Type 0 where
+pub record Acts (plan : Plan) (j : Judgement) (other : Option ℕ) (ws : List Registers) (x : Tables)
+    (ws' : List Registers) (y : Tables) : Type 0 where
   pub machine_is : machine_of y ws' ≡ acted plan (machine_of x ws) j
   pub who_runs : WhoRuns plan (machine_of y ws') y.book
   pub entries_are : y.book.entries ≡ entries_by j x.book.entries

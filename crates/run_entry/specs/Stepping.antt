@@ -29,8 +29,8 @@ pub record Steps (plan : Plan) (p : ℕ) (w : Registers) (x : Tables) : Type 0 w
   pub few : x.book.entries < 4000
   pub committed : length x.book.commits.items ≤ x.book.entries
 
--- From tables x to tables y, job p's registers w becoming r, its item was done and counted: the machine is the one that
--- the definitions give, and the book is what some change, whose store is the item's, makes of it.
+-- From tables x to tables y, job p's registers w becoming r, its item was done and counted: the machine is the one
+-- that the definitions give, and the book is what some change, whose store is the item's, makes of it.
 pub record Stepped (plan : Plan) (p : ℕ) (w : Registers) (x : Tables) (r : Registers) (y : Tables) : Type 0 where
   pub machine_is :
       (ws : List Registers) → length ws ≡ 16 → get_or ws p idle ≡ w

@@ -1,5 +1,5 @@
-// What a judged entry does. The jobs' registers stay where the caller keeps them: one of them goes in and comes back by
-// value.
+// What a judged entry does. The jobs' registers stay where the caller keeps them: one of them goes in and comes back
+// by value.
 #![tactic(auto)]
 
 ghost use Rattle.std.specs.Prelude.{◌≡◌, ◌<◌};

@@ -1,6 +1,6 @@
--- The book says who runs as long as it follows the machine: who runs on a card depends on which of its jobs are active,
--- and on nothing else. So a change of one job's record changes that only for the job's own card, and only where the job
--- becomes active or is so no longer. Assumes nothing.
+-- The book says who runs as long as it follows the machine: who runs on a card depends on which of its jobs are
+-- active, and on nothing else. So a change of one job's record changes that only for the job's own card, and only where
+-- the job becomes active or is so no longer. Assumes nothing.
 use Rattle.std.proofs.Common.{◌≡◌, refl, sym, ◌∙◌, ap, ◌≢◌, inl, inr, ◌⊎◌}
 use Rattle.std.proofs.Common.{ℕ, zero, suc, ◌+◌, ◌*◌, ◌≤◌, ◌<◌, arith, Bool, true, false, ◌&&◌, eqb, ne_eqb}
 use Rattle.std.proofs.Common.{List, [], ◌∷◌, ◌++◌, length, get_or, set, get_or-set_same, get_or-set_other}
@@ -118,7 +118,8 @@ module _
         where
           other-card : active_on plan m' r p ≡ active_on plan m r p
           other-card =
-              rw (ne_eqb card r (λ z. n (sym z))) (neither (is_active (work_of m' p).place) (is_active (work_of m p).place))
+              rw (ne_eqb card r (λ z. n (sym z)))
+              (neither (is_active (work_of m' p).place) (is_active (work_of m p).place))
 
 -- Where no job is active, none runs.
 runs_none : (plan : Plan) (m : Machine) (card : ℕ) → ((k : ℕ) → is_active (work_of m k).place ≡ false)

@@ -40,7 +40,8 @@ module _ (plan : Plan) (all : List Entry) (x₀ : Tables) where
   at_first s = s.reached
 
   -- At the end.
-  pub at_last : (n : ℕ) (ws : List Registers) (x : Tables) → Sofar n ws x → Starts plan all x₀ → Ran plan all (take n all) x
+  pub at_last : (n : ℕ) (ws : List Registers) (x : Tables) → Sofar n ws x → Starts plan all x₀
+      → Ran plan all (take n all) x
   at_last n ws x sofar s = (ws, sofar s)
 
   module _ (i : ℕ) (ws : List Registers) (x : Tables) (inside : i < length all) (sofar : Sofar i ws x) where
@@ -91,7 +92,8 @@ module _ (plan : Plan) (all : List Entry) (x₀ : Tables) where
       asks s = (ws, (kept s, (met s, ap (λ n. get_or ws n idle) (sym k-is))))
 
       -- One record more has run.
-      pub onward : (w' : Registers) (y : Tables) → Gives plan r (get_or ws k idle) x w' y → Sofar (i + 1) (set ws k w') y
+      pub onward : (w' : Registers) (y : Tables) → Gives plan r (get_or ws k idle) x w' y
+          → Sofar (i + 1) (set ws k w') y
       onward w' y gave s =
           subst (λ (es : List Entry). Reached plan all es (set ws k w') y) (sym one_more)
           (one.acted-on plan all done rest e s.sound s.few apart (sofar s) r.judgement (judgement-is s) acts

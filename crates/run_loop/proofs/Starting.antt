@@ -25,7 +25,8 @@ always zero k d = refl
 always (suc n) zero d = refl
 always (suc n) (suc k) d = always n k d
 
-module _ {plan : Plan} {x : Tables} (ok : Sound plan) (o : Opened plan x) (all : List Entry) (few : length all ≤ 4000) where
+module _ {plan : Plan} {x : Tables} (ok : Sound plan) (o : Opened plan x) (all : List Entry)
+    (few : length all ≤ 4000) where
   -- No job is active.
   none-active : (k : ℕ) → get_or x.book.active k false ≡ false
   none-active k = ap (λ (b : Book). get_or b.active k false) o.book_is ∙ always 16 k false

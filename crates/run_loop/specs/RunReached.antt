@@ -1,5 +1,5 @@
--- What the code of a run has reached: the state that the definitions give for the records that have run so far. Assumes
--- nothing.
+-- What the code of a run has reached: the state that the definitions give for the records that have run so far.
+-- Assumes nothing.
 use Rattle.std.specs.Prelude.{◌≤◌, ◌≡◌, List, [], length, replicate}
 use Rattle.spec_format.specs.declared.Entry.{Entry}
 use Rattle.spec_format.specs.Plan.{Plan}

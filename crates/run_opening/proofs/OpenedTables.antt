@@ -1,5 +1,6 @@
 -- Tables filled as at the opening are the machine's opening. Assumes a sound plan.
-use Rattle.std.proofs.Common.{◌≡◌, refl, ap, sym, subst, subst₂, ℤ, ℕ, ◌+◌, ◌*◌, ◌<◌, ◌≤◌, ◌⊎◌, inl, inr, List, pos, get_or, replicate}
+use Rattle.std.proofs.Common.{◌≡◌, refl, ap, sym, subst, subst₂, ℤ, ℕ, ◌+◌, ◌*◌, ◌<◌, ◌≤◌, ◌⊎◌, inl, inr, List, pos}
+use Rattle.std.proofs.Common.{get_or, replicate}
 use Rattle.std.proofs.lemmas.Bool.{cases_lt}
 use Rattle.std.proofs.lemmas.List.{get_or-replicate, get_or_past}
 use Rattle.spec_format.specs.Sound.{Sound}

@@ -16,8 +16,8 @@ own_opened first =
       update = 0;
     }
 
--- The tables are those of the opening of a plan: with the jobs' registers at rest they are the machine's opening, and in
--- the book nothing is counted, no job is active, and none runs on any card.
+-- The tables are those of the opening of a plan: with the jobs' registers at rest they are the machine's opening, and
+-- in the book nothing is counted, no job is active, and none runs on any card.
 pub record Opened (plan : Plan) (x : Tables) : Type 0 where
   pub machine_is : machine_of x (replicate 16 idle) ≡ opening_of plan
   pub book_is : x.book ≡ blank_tables.book

@@ -4,6 +4,7 @@
 ghost use Rattle.std.specs.Prelude.{◌≡◌, ◌≤◌, ◌+◌, ◌*◌};
 ghost use Rattle.spec_format.specs.Plan.{tabulate};
 ghost use Rattle.spec_format.specs.Sound.{Sound};
+ghost use Rattle.step_cells.specs.Tables.{blank_tables};
 ghost use Rattle.run_opening.specs.Opened.{own_opened, Opened};
 
 use read_tables::Plan;
@@ -43,22 +44,34 @@ fn open_own(own: &mut [Own; 16], copies: usize)
     }
 }
 
-// "V is (0, false); every announcement Ann is N; every status is N, and Stat[N] is N always; Bank[k] is NC + k": the
-// tables of a plan at its opening, with the opening memory behind the copy blocks. No job runs on any card.
-pub fn open(plan: &Plan) -> Tables
-    requires { Sound plan.now }
-    ensures { Opened plan.now result }
+// "V is (0, false); every announcement Ann is N; every status is N, and Stat[N] is N always; Bank[k] is NC + k": blank
+// tables filled as at the opening of a plan, with the opening memory behind the copy blocks. Apart from `open`, so
+// that the tables stand on the stack once, in the caller of `open`, and are not copied there.
+#[inline(never)]
+fn fill(plan: &Plan, tables: &mut Tables)
+    requires sound { Sound plan.now }
+    requires blank { tables.old ≡ blank_tables }
+    ensures { Opened plan.now tables.new }
 {
     let sizes = plan.sizes();
     let none = sizes.jobs as u32;
     let behind_copies = sizes.jobs * sizes.copies;
     let start = behind_copies * sizes.words;
     let memory = plan.words();
-    let mut tables = Tables::blank();
     tables.ann = [none; 8];
     tables.stat = [none as i32; 17];
     open_bank(&mut tables.bank, behind_copies);
     open_own(&mut tables.own, sizes.copies);
     tables.store[start..start + memory.len()].copy_from_slice(memory);
+}
+
+// The tables of a plan at its opening. No job runs on any card.
+#[inline]
+pub fn open(plan: &Plan) -> Tables
+    requires { Sound plan.now }
+    ensures { Opened plan.now result }
+{
+    let mut tables = Tables::blank();
+    fill(plan, &mut tables);
     tables
 }

@@ -1,5 +1,5 @@
--- `run_records` meets its contract: before the first record the tables are at the opening; a record is judged and acted
--- on, and what acting gives brings the run one record further. Assumes nothing.
+-- `run_records` meets its contract: before the first record the tables are at the opening; a record is judged and
+-- acted on, and what acting gives brings the run one record further. Assumes nothing.
 use Prim.Native.Nat.{◌<◌}
 use mathlib.Core.Path.{◌≡◌}
 use native.Mathlib.Omega.{arith}
@@ -22,7 +22,8 @@ pub bounds-works-job : goal.bounds-works-job
 bounds-works-job c = below (goal.at.bounds-works-job c).After-changed-job
 
 pub offset_bounds-works-job : goal.offset_bounds-works-job
-offset_bounds-works-job c = record { fits = omega (arith, below (goal.at.offset_bounds-works-job c).After-changed-job) }
+offset_bounds-works-job c =
+    record { fits = omega (arith, below (goal.at.offset_bounds-works-job c).After-changed-job) }
 
 pub act_where_kept-requires : goal.act_where_kept-requires
 act_where_kept-requires c =

@@ -1,11 +1,11 @@
--- `open` fills blank tables. Assumes nothing.
+-- `fill` fills blank tables. Assumes nothing.
 use Rattle.std.proofs.Common.{◌≡◌, refl, ◌∙◌, ap, ◌+◌, ◌-◌, ◌*◌, arith, length, replicate, pos, to_z, w32}
 use Rattle.std.proofs.lemmas.Int.{to_z_pos}
 use Rattle.std.proofs.lemmas.Slice.{put_mid-paste}
 use borrow.Rule.Slice.PartMut.{put_mid}
 use Rattle.spec_machine.specs.Machine.{opening_store}
 use Rattle.run_opening.proofs.OpenedTables.{opened}
-use Rattle.run_opening.proofs.open.Goals as goal
+use Rattle.run_opening.proofs.fill.Goals as goal
 
 pub returns : goal.returns
 returns c =
@@ -15,12 +15,13 @@ returns c =
     let memory : put_mid start (start + length plan.words - start) (replicate 2304 0) c.copy_from_slice.new.self
     ≡ opening_store plan
     = put_mid-paste start (start + length plan.words - start) (replicate 2304 0) c.copy_from_slice.new.self
-    plan.words (length plan.words) (c.copy_from_slice.ensures.after ∙ c.words-memory.ensures.value) (omega arith) refl in
+    plan.words (length plan.words) (c.copy_from_slice.ensures.after ∙ c.words-memory.ensures.value) (omega arith)
+    refl in
     rw (
-      c.«blank-tables».ensures,
+      c.requires.blank,
       c.open_bank.ensures,
       c.open_own.ensures,
       c.«sizes-sizes».ensures,
       c.words-memory.ensures.value,
     )
-    (opened plan c.requires _ (ap (replicate 17) small) _ memory)
+    (opened plan c.requires.sound _ (ap (replicate 17) small) _ memory)
