@@ -1,14 +1,16 @@
-// Reading and writing for the programs. A read or a write that fails is not taken for the end: a line on standard error
-// says what failed.
+// Reading and writing for the programs, and how they end. A read or a write that fails is not taken for the end: a line
+// on standard error says what failed.
 #![tactic(auto)]
 
-ghost use Rattle.std.specs.Prelude.{◌≡◌, ◌+◌, ◌-◌, ◌≤◌, ◌<◌, false, length, take, drop};
+ghost use Rattle.std.specs.Prelude.{◌<◌, ◌≤◌, length, take, IfSome, OnOk};
 ghost use Rattle.io.specs.Counts.{IsPrefixLen};
 ghost use Rattle.std.specs.Io.KnownBytes.{Appends, Consumes, IsAtEnd};
-ghost use Rattle.program_streams.specs.Streams.{AtMost, ReadOnce, WriteOnce};
 
+use public_messages::MESSAGE;
+use public_printing::Printed;
 use std::io;
 use std::io::{Cursor, ErrorKind, Read, Stderr, Write};
+use std::process::ExitCode;
 
 // How many bytes of a text are read: none that is accepted is longer than 65,536, and one byte more tells of any longer
 // one that it is too long.
@@ -35,52 +37,11 @@ impl Outputs for HostRuntime {
     }
 }
 
-// What reading to the end came to: how many bytes were read, and whether a read failed.
-#[derive(Clone, Copy)]
-pub struct Input {
-    pub failed: bool,
-    pub length: usize,
-}
-
-// What writing came to: all of the bytes were written; nobody reads what is written any more; or a write failed, which
-// was told.
+// Why not all bytes were written: nobody reads what is written any more, or a write failed, which was told.
 #[derive(Clone, Copy, PartialEq, Eq)]
-pub enum Written {
-    All,
+pub enum WriteError {
     Closed,
     Failed,
-}
-
-// What one call came to: it moved so many bytes, or it failed.
-#[derive(Clone, Copy)]
-enum Moved {
-    Bytes(usize),
-    Failed(io::Error),
-}
-
-// Reads once, into the bytes from a place on.
-fn read_once<I: Read>(input: &mut I, bytes: &mut [u8], from: usize) -> Moved
-    requires { from ≤ length bytes.old }
-    ensures at_most { AtMost result (length bytes.old - from) }
-    ensures bytes { ReadOnce (I.remaining input.old) (I.remaining input.new) (drop from bytes.new) result }
-    ensures front { take from bytes.new ≡ take from bytes.old }
-{
-    match input.read(&mut bytes[from..]) {
-        Ok(n) => Moved::Bytes(n),
-        Err(error) => Moved::Failed(error),
-    }
-}
-
-// Writes once, the bytes from a place on.
-fn write_once<O: Write>(output: &mut O, bytes: &[u8], from: usize) -> Moved
-    requires { from ≤ length bytes.now }
-    ensures at_most { AtMost result (length bytes.now - from) }
-    ensures bytes { WriteOnce (O.contents output.old) (O.contents output.new) (drop from bytes.now) result }
-{
-    match output.write(&bytes[from..]) {
-        Ok(n) => Moved::Bytes(n),
-        Err(error) => Moved::Failed(error),
-    }
 }
 
 // How many bytes of the text of an error of the system's are its own words: all but the error's number, which stands
@@ -111,80 +72,97 @@ pub fn tell<E: Print>(errors: &E, name: &[u8], error: io::Error) {
     let _ = errors.write_all(b"\n");
 }
 
-// Reads until the bytes are full or the input ends, and answers how many were read. A read that fails is told by the
-// input's name. Where the input's bytes are known, those that were read are its first, and there are fewer than there
-// is room for only where it has no more.
-pub fn read_all<R: Outputs, I: Read>(rt: &R, input: &mut I, name: &[u8], bytes: &mut [u8]) -> Input
-    ensures prefix_len { IsPrefixLen result.length bytes.new }
-    ensures bytes { result.failed ≡ false
-        → Consumes (I.remaining input.old) (I.remaining input.new) (take result.length bytes.new) }
-    ensures end { result.failed ≡ false → result.length < length bytes.new → IsAtEnd (I.remaining input.new) }
+// What a failed write comes to. It is told by the output's name, but not where nobody reads the output any more.
+pub fn write_error<E: Print>(errors: &E, name: &[u8], error: io::Error) -> WriteError {
+    if error.kind() == ErrorKind::BrokenPipe {
+        return WriteError::Closed;
+    }
+    tell(errors, name, error);
+    WriteError::Failed
+}
+
+// Reads until the bytes are full or the input ends, and answers how many were read, or None where a read fails, which is
+// told by the input's name. Where the input's bytes are known, those that were read are its first, and there are fewer
+// than there is room for only where it has no more.
+// The loop counts: of the library's methods `read_exact` refuses a shorter input, and `read_to_end` needs a heap.
+pub fn read_all<R: Outputs, I: Read>(
+    rt: &R,
+    input: &mut I,
+    name: &[u8],
+    bytes: &mut [u8],
+) -> Option<usize>
+    ensures prefix_len { IfSome result (λ n. IsPrefixLen n bytes.new) }
+    ensures bytes { IfSome result (λ n. Consumes (I.remaining input.old) (I.remaining input.new) (take n bytes.new)) }
+    ensures end { IfSome result (λ n. n < length bytes.new → IsAtEnd (I.remaining input.new)) }
 {
     let mut done = 0;
     while done < bytes.len() {
-        match read_once(input, bytes, done) {
-            Moved::Bytes(0) => break,
-            Moved::Bytes(n) => done += n,
-            Moved::Failed(error) => {
+        match input.read(&mut bytes[done..]) {
+            Ok(0) => break,
+            Ok(n) => done += n,
+            Err(error) => {
                 tell(&rt.errors(), name, error);
-                return Input {
-                    failed: true,
-                    length: 0,
-                };
+                return None;
             }
         }
     }
-    Input {
-        failed: false,
-        length: done,
-    }
+    Some(done)
 }
 
 // Writes all of the bytes. A write that fails, or takes none of them, is told by the output's name, but not where
 // nobody reads the output any more. Where it is known what the output holds, all of the bytes then stand behind it.
+// The loop counts: the library's `write_all` goes on after a signal, which is told here as a failure and may not change.
 pub fn write_all<O: Write, E: Print>(
     output: &mut O,
     errors: &E,
     name: &[u8],
     bytes: &[u8],
-) -> Written
-    ensures { result ≡ Written.All → Appends (O.contents output.old) (O.contents output.new) bytes.now }
+) -> Result<(), WriteError>
+    ensures { OnOk result (Appends (O.contents output.old) (O.contents output.new) bytes.now) }
 {
     let mut done = 0;
     while done < bytes.len() {
-        match write_once(output, bytes, done) {
-            Moved::Bytes(0) => {
+        match output.write(&bytes[done..]) {
+            Ok(0) => {
                 let _ = errors.write_all(name);
                 let _ = errors.write_all(b": not all was written\n");
-                return Written::Failed;
+                return Err(WriteError::Failed);
             }
-            Moved::Bytes(n) => done += n,
-            Moved::Failed(error) => {
-                if error.kind() == ErrorKind::BrokenPipe {
-                    return Written::Closed;
-                }
-                tell(errors, name, error);
-                return Written::Failed;
-            }
+            Ok(n) => done += n,
+            Err(error) => return Err(write_error(errors, name, error)),
         }
     }
-    Written::All
+    Ok(())
 }
 
 // Reads standard input.
-pub fn read_input<R: std::io::Input + Outputs>(rt: &R, bytes: &mut [u8]) -> Input
-    ensures { IsPrefixLen result.length bytes.new }
+pub fn read_input<R: std::io::Input + Outputs>(rt: &R, bytes: &mut [u8]) -> Option<usize>
+    ensures { IfSome result (λ n. IsPrefixLen n bytes.new) }
 {
     read_all(rt, &mut rt.reader(), b"standard input", bytes)
 }
 
 // Writes to standard output.
-pub fn write_output<R: Outputs>(rt: &R, bytes: &[u8]) -> Written {
+pub fn write_output<R: Outputs>(rt: &R, bytes: &[u8]) -> Result<(), WriteError> {
     write_all(&mut io::writer(rt), &rt.errors(), b"standard output", bytes)
 }
 
 // Writes to standard error.
-pub fn write_message<R: Outputs>(rt: &R, bytes: &[u8]) -> Written {
+pub fn write_message<R: Outputs>(rt: &R, bytes: &[u8]) -> Result<(), WriteError> {
     let errors = rt.errors();
     write_all(&mut io::writer(&errors), &errors, b"standard error", bytes)
+}
+
+// Ends a program: writes what is to be printed of its text, the first bytes of the buffer, to standard output, and of a
+// refusal a line to standard error that says in plain words what it means.
+pub fn write_answer<R: Outputs>(rt: &R, printed: Printed, buffer: &[u8]) -> ExitCode
+    requires { printed.length ≤ length buffer.now }
+{
+    if write_output(rt, &buffer[..printed.length]) == Err(WriteError::Closed) {
+        return ExitCode::from(CLOSED);
+    }
+    let mut message = [0u8; MESSAGE];
+    let said = public_messages::explain(printed.number, printed.line, printed.entry, &mut message);
+    let _ = write_message(rt, &message[..said]);
+    ExitCode::SUCCESS
 }

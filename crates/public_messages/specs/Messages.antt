@@ -1,6 +1,6 @@
 -- A refusal in plain words: the one table of sentences, and the line that a program writes to standard error beside
 -- what it prints. Assumes nothing.
-use Rattle.std.specs.Prelude.{ℕ, cond, ◌&&◌, List, [], ◌∷◌, ◌++◌, eqb, ltb, length, get_or}
+use Rattle.std.specs.Prelude.{ℕ, Bool, cond, ◌&&◌, List, [], ◌∷◌, ◌++◌, eqb, ltb, length, get_or}
 use Rattle.spec_text.specs.Bytes.{bytes}
 use Rattle.spec_text.specs.Decimal.{decimal}
 
@@ -31,6 +31,10 @@ meanings =
 abbrev pub meaning : ℕ → List ℕ
 meaning number = get_or meanings number []
 
+-- Whether a number refuses: it is neither 0 nor past the table.
+abbrev pub refuses : ℕ → Bool
+refuses number = ltb 0 number && ltb number (length meanings)
+
 -- The entry that is refused: `, entry 2`; nothing where none is, which is entry 0.
 abbrev pub entry_part : ℕ → List ℕ
 entry_part entry = cond (eqb entry 0) [] (bytes ", entry " ++ decimal entry)
@@ -47,4 +51,4 @@ refusal_line number line entry =
 
 -- What is said of an end: the line of a refusal; nothing of acceptance, nor of a number past the table.
 abbrev pub message : ℕ → ℕ → ℕ → List ℕ
-message number line entry = cond (ltb 0 number && ltb number (length meanings)) (refusal_line number line entry) []
+message number line entry = cond (refuses number) (refusal_line number line entry) []

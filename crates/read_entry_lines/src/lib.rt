@@ -1,118 +1,108 @@
 // The lines `call` and `step`. A run of steps is one note, whatever its n.
 #![tactic(auto)]
 
-ghost use Rattle.std.specs.Prelude.{◌≡◌, List, ℕ, ◌+◌, ◌≤◌, ◌<◌, ltb, length};
+ghost use Rattle.std.specs.Prelude.{◌≡◌, ◌<◌, option_map};
+ghost use Rattle.spec_text.specs.Lines.{numbers};
 ghost use Rattle.read_fields.specs.FieldPlaces.{fields_at};
 ghost use Rattle.spec_format.specs.declared.Kind.{Kind};
-ghost use Rattle.spec_format.specs.ParsedLines.{numbers_for, directive_of};
-ghost use Rattle.read_tables.specs.NoteTable.{note_places};
-ghost use Rattle.read_line_promises.specs.Promises.{tables_read, Consistent, LineStep};
-ghost use Rattle.read_line_promises.specs.Promises.{entry_from, times_from, entry_directive};
+ghost use Rattle.spec_format.specs.ParsedLines.{entry, step_numbers, directive_of};
+ghost use Rattle.read_line_promises.specs.Promises.{LineStep};
 
-use read_few_numbers::{Three, three_at};
-use read_line_promises::{EntryKind, LineRead, Progress};
-use read_tables::NOTE_PLACES;
-use spec_format::{Entry, Fault};
+use read_few_numbers::numbers_at;
+use read_line_promises::Progress;
+use read_tables::Note;
+use spec_format::{Entry, Fault, LineFault};
 
 // The most steps of a run, and the most single entries of a schedule.
 const MOST: u32 = 4000;
 
-// The entry that a line says with its numbers: `call job update`, `step card` or `step card n`.
-fn entry_of(kind: EntryKind, first: u32, second: u32) -> Entry
-    ensures { result ≡ entry_from kind first second }
+// The line of an entry that comes so many times: it is noted with its line. Its job, update or card is judged when it
+// runs.
+fn entry_line(noted: Option<(Entry, u32)>, progress: &mut Progress) -> Result<(), LineFault>
+    requires { progress.old.lines < 65536 }
+    ensures { LineStep progress.old progress.new (option_map (λ x. entry x.0 x.1) noted) result }
 {
-    match kind {
-        EntryKind::Call => Entry {
-            kind: 0,
-            first,
-            second,
-        },
-        EntryKind::Step => Entry {
-            kind: 1,
-            first,
-            second: 0,
-        },
-        EntryKind::Run => Entry {
-            kind: 1,
-            first,
-            second: 0,
-        },
-    }
-}
-
-// How many times it comes.
-fn times_of(kind: EntryKind, second: u32) -> u32
-    ensures { result ≡ times_from kind second }
-{
-    match kind {
-        EntryKind::Call => 1,
-        EntryKind::Step => 1,
-        EntryKind::Run => second,
-    }
-}
-
-// A line that holds an entry: it is noted with how many times it comes, and its line. Its job, update or card is judged
-// when it runs.
-pub fn entry_line(
-    kind: EntryKind,
-    numbers: Three,
-    p: Progress,
-    notes: &mut [u32; NOTE_PLACES],
-) -> LineRead
-    requires { (p.lines < 65536) × ((p.notes ≤ p.entries) × (length notes.old ≡ note_places)) }
-    ensures { (met : Kind) (t : List ℕ) → Consistent p t → LineStep met p
-        (tables_read t notes.old)
-        (tables_read t notes.new)
-        (entry_directive kind «numbers»)
-        result }
-{
-    let number = p.lines + 1;
-    let Three::Are(first, second, _) = numbers else {
-        return LineRead::Refused(Fault::Malformed, number);
+    let number = progress.lines + 1;
+    let Some((entry, times)) = noted else {
+        return Err(LineFault {
+            fault: Fault::Malformed,
+            line: number,
+        });
     };
-    let e = entry_of(kind, first, second);
-    let times = times_of(kind, second);
-    if times < 1 {
-        return LineRead::Refused(Fault::BadRun, number);
-    }
-    if MOST < times {
-        return LineRead::Refused(Fault::BadRun, number);
+    if !(1..=MOST).contains(&times) {
+        return Err(LineFault {
+            fault: Fault::BadRun,
+            line: number,
+        });
     }
     let room = (MOST - times) as usize;
-    if room < p.entries {
-        return LineRead::Refused(Fault::TooMany, number);
+    if room < progress.entries {
+        return Err(LineFault {
+            fault: Fault::TooMany,
+            line: number,
+        });
     }
-    let i = p.notes;
-    read_tables::note(notes, i, e, times, number as u32);
-    let mut q = p;
-    q.entries = p.entries + times as usize;
-    q.notes = i + 1;
-    q.lines = number;
-    LineRead::Read(q)
+    let note = Note {
+        entry,
+        times,
+        line: number as u32,
+    };
+    progress.notes.push(note);
+    progress.entries += times as usize;
+    progress.lines = number;
+    Ok(())
 }
 
-// Whether a second field follows the one that starts at a place of a line.
-fn second_follows(line: &[u8], at: usize) -> bool
-    ensures { result ≡ ltb 1 (length (fields_at line.now at)) }
+// What the line `call job update` says: it comes once.
+fn call_at(line: &[u8], at: usize) -> Option<(Entry, u32)>
+    ensures { option_map (λ x. entry x.0 x.1) result ≡ directive_of Kind.Call (numbers 2 (fields_at line.now at)) }
 {
-    if line.len() < at {
-        return false;
-    }
-    read_fields::find(line, at, 9) < line.len()
+    let [first, second] = numbers_at::<2>(line, at)?;
+    let call = Entry {
+        kind: 0,
+        first,
+        second,
+    };
+    Some((call, 1))
 }
 
-// The line `step card` or, where a second field follows the card, `step card n`.
-pub fn step_line(line: &[u8], at: usize, p: Progress, notes: &mut [u32; NOTE_PLACES]) -> LineRead
-    requires { (at ≤ length line.now + 1) × ((p.lines < 65536) × ((p.notes ≤ p.entries)
-        × (length notes.old ≡ note_places))) }
-    ensures { (s : ℕ) (t : List ℕ) → Consistent p t → LineStep Kind.Step p
-        (tables_read t notes.old)
-        (tables_read t notes.new)
-        (directive_of Kind.Step (numbers_for s Kind.Step (fields_at line.now at)))
-        result }
+// The line `call job update`.
+pub fn call_line(line: &[u8], at: usize, progress: &mut Progress) -> Result<(), LineFault>
+    requires { progress.old.lines < 65536 }
+    ensures { LineStep progress.old progress.new (directive_of Kind.Call (numbers 2 (fields_at line.now at))) result }
 {
-    if second_follows(line, at) {
-        return entry_line(EntryKind::Run, three_at(line, at, 2), p, notes);
+    entry_line(call_at(line, at), progress)
+}
+
+// The step of a card.
+fn step_of(card: u32) -> Entry
+    ensures { result ≡ record { kind = 1; first = card; second = 0 } }
+{
+    Entry {
+        kind: 1,
+        first: card,
+        second: 0,
     }
-    entry_line(EntryKind::Step, three_at(line, at, 1), p, notes)
+}
+
+// What the line `step card` says, which comes once, or the line `step card n`.
+fn step_at(line: &[u8], at: usize) -> Option<(Entry, u32)>
+    ensures { let fs = fields_at line.now at in
+        option_map (λ x. entry x.0 x.1) result ≡ directive_of Kind.Step (numbers (step_numbers fs) fs) }
+{
+    if let Some(numbers) = numbers_at::<1>(line, at) {
+        let [card] = numbers;
+        return Some((step_of(card), 1));
+    }
+    let [card, n] = numbers_at::<2>(line, at)?;
+    Some((step_of(card), n))
+}
+
+// The line `step card` or `step card n`.
+pub fn step_line(line: &[u8], at: usize, progress: &mut Progress) -> Result<(), LineFault>
+    requires { progress.old.lines < 65536 }
+    ensures { let fs = fields_at line.now at in
+        LineStep progress.old progress.new (directive_of Kind.Step (numbers (step_numbers fs) fs)) result }
+{
+    entry_line(step_at(line, at), progress)
 }

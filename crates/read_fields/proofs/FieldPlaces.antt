@@ -1,40 +1,44 @@
 -- Laws on places: the next byte x, the parts between bytes x, and the fields of a line from a place on.
 -- Assumes nothing.
-use Prim.Native.Nat.{ℕ, suc, ◌+◌, ◌-◌, ◌≤◌, ◌<◌}
+use Prim.Native.Nat.{ℕ, suc, ◌+◌, ◌-◌, ◌≤◌}
 use mathlib.Core.Path.{◌≡◌, refl, ◌∙◌}
-use mathlib.Core.Bool.{Bool, true, false, cond}
+use mathlib.Core.Bool.{Bool, true, false, cond, not}
 use mathlib.Core.List.{List, [], ◌∷◌}
 use native.Mathlib.Omega.{arith}
 use native.Mathlib.Numerals.{add-one}
 use borrow.Author.Tests.{lt-ltb, le-ltb, ltb-true, ltb-false}
+use Rattle.std.specs.Prelude.{◌==◌, unwrap_or, position}
+use Rattle.std.specs.List.{position_or_len}
+use Rattle.std.proofs.lemmas.List.Sums.{prefix_len-le-length}
 use lib.Dec.{ltb, eqb, leb-suc-suc}
-use lib.ListN.{length, take, drop, get_or, length-drop}
-use lib.Seq.{drop-cons, drop-drop}
+use lib.ListN.{length, take, drop, length-drop}
+use lib.Seq.{drop-drop}
 use Rattle.spec_text.proofs.Cases.{by-test, same_test}
 use Rattle.spec_text.specs.Lines.{in_front, split}
-use Rattle.read_fields.specs.FieldPlaces.{before, place_of, fields_at}
+use Rattle.read_fields.specs.FieldPlaces.{place_of, fields_at}
 
--- The bytes from a place on, by the first.
-pub drop-next : (s : List ℕ) (i : ℕ) → i < length s → drop i s ≡ get_or s i 0 ∷ drop (i + 1) s
-drop-next s i h = rw (add-one, drop-cons s i 0)
+-- How many bytes of s stand before its first byte x.
+abbrev pub before : ℕ → List ℕ → ℕ
+before x s = position_or_len (λ b. b == x) s
 
 -- The first byte x, or the end, is not past the end.
 pub before-le : (x : ℕ) (s : List ℕ) → before x s ≤ length s
-before-le x [] = omega arith
-before-le x (b ∷ s) = go (eqb b x) (before-le x s)
-  where
-    go : (t : Bool) → before x s ≤ length s → cond t 0 (suc (before x s)) ≤ suc (length s)
-    go true h = omega arith
-    go false h = omega arith
+before-le x s = prefix_len-le-length _ s
 
--- A next byte x stands at the end at the latest.
-pub place-le : (x : ℕ) (s : List ℕ) (at : ℕ) → at ≤ length s → place_of x s at ≤ length s
-unfolding place_of
-place-le x s at h = omega (arith, before-le x (drop at s), length-drop at s)
+-- The place of the first element that passes, or the length.
+pub position-or : (p : ℕ → Bool) (xs : List ℕ) → unwrap_or (position p xs) (length xs) ≡ position_or_len p xs
+position-or p xs =
+    by-test (ltb (position_or_len p xs) (length xs))
+    (λ t. rw t)
+    (λ t. rw t (omega (arith, prefix_len-le-length (λ x. not (p x)) xs, ltb-false (position_or_len p xs) (length xs) t)))
 
 -- The first n bytes of s as a part, and the parts of what stands behind the byte that ends it.
 abbrev pub parts : ℕ → List ℕ → ℕ → List (List ℕ)
 parts x s n = take n s ∷ cond (ltb n (length s)) (split x (drop (n + 1) s)) []
+
+-- One byte more in front of the first part.
+parts-more : (x b : ℕ) (s : List ℕ) (n : ℕ) → in_front b (parts x s n) ≡ parts x (b ∷ s) (1 + n)
+parts-more x b s n = let next : 1 + n ≡ suc n = omega arith in rw next (simp (add-one, leb-suc-suc))
 
 -- The first part of s ends before the first byte x.
 pub split-first : (x : ℕ) (s : List ℕ) → split x s ≡ parts x s (before x s)
@@ -42,9 +46,9 @@ split-first x [] = refl
 split-first x (b ∷ s) = go (eqb b x) (split-first x s)
   where
     go : (t : Bool) → split x s ≡ parts x s (before x s)
-        → cond t ([] ∷ split x s) (in_front b (split x s)) ≡ parts x (b ∷ s) (cond t 0 (suc (before x s)))
+        → cond t ([] ∷ split x s) (in_front b (split x s)) ≡ parts x (b ∷ s) (cond (not t) (1 + before x s) 0)
     go true e = rw (lt-ltb 0 (suc (length s)) (omega arith))
-    go false e = rw e (simp (add-one, leb-suc-suc))
+    go false e = rw e (parts-more x b s (before x s))
 
 -- The parts of s from a place on.
 pub split-at-place : (x : ℕ) (s : List ℕ) (at : ℕ) → at ≤ length s

@@ -9,7 +9,8 @@ use native.Mathlib.Omega.{arith}
 use borrow.Author.Tests.{lt-ltb, le-ltb}
 use lib.ListN.{length, take, drop, length-drop}
 use lib.Seq.{take_all}
-use Rattle.read_fields.proofs.FieldPlaces.{drop-next, split-first, split-at-place, fields-next}
+use Rattle.read_fields.proofs.FieldPlaces.{split-first, split-at-place, fields-next}
+use Rattle.std.proofs.lemmas.List.{drop_more}
 use Rattle.spec_text.specs.Lines.{fields, lines}
 use Rattle.read_fields.specs.FieldPlaces.{place_of, fields_at}
 
@@ -41,7 +42,7 @@ lines-open text at h p =
       p,
       le-ltb (length text) (length text) (omega arith),
       take_all (length text - at) (drop at text) (simp length-drop (omega arith)),
-      drop-next text at h,
+      drop_more text at 0 h,
     )
 
 -- The fields of a line are those from its start on.

@@ -2,158 +2,67 @@
 #![tactic(auto)]
 
 ghost use Rattle.std.specs.Prelude.{◌≡◌};
-ghost use Rattle.spec_format.specs.Kinds.{same_bytes, kind_of};
-ghost use Rattle.spec_format.specs.Faults.{stands, is_unknown, laid_out};
+ghost use Rattle.spec_format.specs.Kinds.{kind_of};
+ghost use Rattle.spec_format.specs.Faults.{stands, laid_out, lacks_jobs, lacks_blocks};
 ghost use Rattle.read_line_promises.specs.Promises.{draft_of};
 
 use read_line_promises::Progress;
-use read_tables::PLAN_PLACES;
 use spec_format::{Form, Kind};
-
-// Whether two slices hold the same bytes.
-fn same_bytes(a: &[u8], b: &[u8]) -> bool
-    ensures { result ≡ same_bytes a.now b.now }
-{
-    if a.len() != b.len() {
-        return false;
-    }
-    let mut i = 0;
-    while i < a.len() {
-        if a[i] != b[i] {
-            return false;
-        }
-        i += 1;
-    }
-    true
-}
 
 // The kind that a first field names.
 #[tactic(auto, unfolding(spec_format::specs::Kinds::kind_of))]
 pub fn kind_of(word: &[u8]) -> Kind
     ensures { result ≡ kind_of word.now }
 {
-    if same_bytes(word, b"plan") {
-        return Kind::Plan;
+    match word {
+        b"plan" => Kind::Plan,
+        b"job" => Kind::Job,
+        b"block" => Kind::Block,
+        b"update" => Kind::Update,
+        b"copy" => Kind::Copy,
+        b"set" => Kind::Set,
+        b"add" => Kind::Add,
+        b"call" => Kind::Call,
+        b"step" => Kind::Step,
+        _ => Kind::Unknown,
     }
-    if same_bytes(word, b"job") {
-        return Kind::Job;
-    }
-    if same_bytes(word, b"block") {
-        return Kind::Block;
-    }
-    if same_bytes(word, b"update") {
-        return Kind::Update;
-    }
-    if same_bytes(word, b"copy") {
-        return Kind::Copy;
-    }
-    if same_bytes(word, b"set") {
-        return Kind::Set;
-    }
-    if same_bytes(word, b"add") {
-        return Kind::Add;
-    }
-    if same_bytes(word, b"call") {
-        return Kind::Call;
-    }
-    if same_bytes(word, b"step") {
-        return Kind::Step;
-    }
-    Kind::Unknown
 }
 
-// Whether the first field is none of the known ones.
-pub fn is_unknown(kind: Kind) -> bool
-    ensures { result ≡ is_unknown kind }
+// Whether the plan still lacks jobs.
+fn lacks_jobs(progress: &Progress) -> bool
+    ensures { result ≡ lacks_jobs (draft_of progress.now) }
 {
-    if let Kind::Unknown = kind {
-        true
-    } else {
-        false
-    }
+    progress.plan.jobs().len() < progress.plan.sizes().jobs
+}
+
+// Whether the plan still lacks blocks.
+fn lacks_blocks(progress: &Progress) -> bool
+    ensures { result ≡ lacks_blocks (draft_of progress.now) }
+{
+    progress.blocks < progress.plan.sizes().blocks
 }
 
 // Whether the plan line, all jobs and all blocks are there.
-pub fn laid_out(p: Progress, plan: &[u32; PLAN_PLACES]) -> bool
-    ensures { result ≡ laid_out (draft_of p plan.now) }
+pub fn laid_out(progress: &Progress) -> bool
+    ensures { result ≡ laid_out (draft_of progress.now) }
 {
-    let sizes = read_tables::sizes(plan);
-    if p.lines == 0 {
-        return false;
-    }
-    if p.jobs < sizes.jobs {
-        return false;
-    }
-    if p.blocks < sizes.blocks {
-        return false;
-    }
-    true
+    0 < progress.lines && !lacks_jobs(progress) && !lacks_blocks(progress)
 }
 
-// Whether a job can stand here: not all jobs are there.
-fn job_stands(p: Progress, plan: &[u32; PLAN_PLACES]) -> bool
-    ensures { (form : Form) → result ≡ stands form (draft_of p plan.now) Kind.Job }
-{
-    let sizes = read_tables::sizes(plan);
-    p.jobs < sizes.jobs
-}
-
-// Whether a block can stand here: all jobs are there, and not all blocks.
-fn block_stands(p: Progress, plan: &[u32; PLAN_PLACES]) -> bool
-    ensures { (form : Form) → result ≡ stands form (draft_of p plan.now) Kind.Block }
-{
-    let sizes = read_tables::sizes(plan);
-    if p.jobs < sizes.jobs {
-        return false;
-    }
-    p.blocks < sizes.blocks
-}
-
-// Whether an update can stand here: the plan is laid out, and no entry has been read.
-fn update_stands(p: Progress, plan: &[u32; PLAN_PLACES]) -> bool
-    ensures { (form : Form) → result ≡ stands form (draft_of p plan.now) Kind.Update }
-{
-    if laid_out(p, plan) {
-        return p.entries == 0;
-    }
-    false
-}
-
-// Whether a move can stand here: where an update can, and behind one.
-fn move_stands(p: Progress, plan: &[u32; PLAN_PLACES]) -> bool
-    ensures { (form : Form) → result ≡ stands form (draft_of p plan.now) Kind.Copy }
-{
-    if update_stands(p, plan) {
-        return 0 < read_tables::updates(plan);
-    }
-    false
-}
-
-// Whether an entry can stand here: the text takes entries, and the plan is laid out.
-fn entry_stands(form: Form, p: Progress, plan: &[u32; PLAN_PLACES]) -> bool
-    ensures { result ≡ stands form (draft_of p plan.now) Kind.Call }
-{
-    if let Form::Schedule = form {
-        laid_out(p, plan)
-    } else {
-        false
-    }
-}
-
-// Whether a kind can stand here.
-pub fn can_stand(form: Form, p: Progress, plan: &[u32; PLAN_PLACES], kind: Kind) -> bool
-    ensures { result ≡ stands form (draft_of p plan.now) kind }
+// Whether a kind can stand here: an entry in a text that takes entries, an update before the first entry, a move behind
+// an update.
+pub fn can_stand(form: Form, progress: &Progress, kind: Kind) -> bool
+    ensures { result ≡ stands form (draft_of progress.now) kind }
 {
     match kind {
-        Kind::Plan => p.lines == 0,
-        Kind::Job => job_stands(p, plan),
-        Kind::Block => block_stands(p, plan),
-        Kind::Update => update_stands(p, plan),
-        Kind::Copy => move_stands(p, plan),
-        Kind::Set => move_stands(p, plan),
-        Kind::Add => move_stands(p, plan),
-        Kind::Call => entry_stands(form, p, plan),
-        Kind::Step => entry_stands(form, p, plan),
+        Kind::Plan => progress.lines == 0,
+        Kind::Job => lacks_jobs(progress),
+        Kind::Block => !lacks_jobs(progress) && lacks_blocks(progress),
+        Kind::Update => laid_out(progress) && progress.entries == 0,
+        Kind::Copy | Kind::Set | Kind::Add => {
+            laid_out(progress) && progress.entries == 0 && 0 < progress.plan.updates()
+        }
+        Kind::Call | Kind::Step => form == Form::Schedule && laid_out(progress),
         Kind::Unknown => false,
     }
 }

@@ -1,2 +1,2 @@
--- Laws that the proofs of this crate cite.
+-- Laws on a line taken apart.
 pub mod Arms

@@ -1,78 +1,96 @@
 // One line of a text, from its own first byte: its kind, whether it can stand where it does, and what it says.
 #![tactic(auto)]
 
-ghost use Rattle.std.specs.Prelude.{◌≡◌, ◌≤◌, ◌<◌, ◌+◌, length};
+ghost use Rattle.std.specs.Prelude.{◌≡◌, ◌<◌, option_map};
 ghost use Rattle.read_fields.specs.FieldPlaces.{fields_at};
-ghost use Rattle.spec_format.specs.ParsedLines.{directive_of, numbers_for};
-ghost use Rattle.read_tables.specs.PlanTable.{sizes_in};
-ghost use Rattle.read_tables.specs.NoteTable.{note_places};
-ghost use Rattle.read_line_promises.specs.Promises.{tables_read, Consistent, LineStep, LineDone, Standing};
+ghost use Rattle.spec_text.specs.Lines.{numbers};
+ghost use Rattle.spec_format.specs.declared.Kind.{Kind};
+ghost use Rattle.spec_format.specs.ParsedLines.{directive_of, numbers_for, move, update};
+ghost use Rattle.read_line_promises.specs.Promises.{LineStep, LineDone};
+ghost use Rattle.read_line.specs.Standing.{Standing};
 
-use read_few_numbers::three_at;
-use read_line_promises::{EntryKind, LineRead, MoveKind, Progress};
-use read_tables::{NOTE_PLACES, PLAN_PLACES};
-use spec_format::{Fault, Form, Kind};
+use read_entry_lines::{call_line, step_line};
+use read_few_numbers::numbers_at;
+use read_fields::find;
+use read_kinds::{can_stand, kind_of};
+use read_line_promises::Progress;
+use read_plan_lines::{block_line, job_line, plan_line};
+use read_update_lines::{move_line, update_line};
+use spec_format::{Fault, Form, Kind, LineFault, Move};
 
-// A line of a known kind that can stand where it does.
-fn read_kind(
-    kind: Kind,
-    line: &[u8],
-    at: usize,
-    p: Progress,
-    plan: &mut [u32; PLAN_PLACES],
-    notes: &mut [u32; NOTE_PLACES],
-) -> LineRead
-    requires at_in_bounds { (at ≤ length line.now + 1) × (Standing p plan.old kind × (p.lines < 65536)) }
-    requires consistent { Consistent p plan.old × (length notes.old ≡ note_places) }
-    ensures { LineStep kind p
-        (tables_read plan.old notes.old)
-        (tables_read plan.new notes.new)
-        (directive_of kind
-        (numbers_for (sizes_in plan.old).words kind (fields_at line.now at)))
+// The number that the line `update n` says.
+fn update_at(line: &[u8], at: usize) -> Option<u32>
+    ensures { option_map update result ≡ directive_of Kind.Update (numbers 1 (fields_at line.now at)) }
+{
+    let [n] = numbers_at::<1>(line, at)?;
+    Some(n)
+}
+
+// The move that the line `copy d a` says,
+fn copy_at(line: &[u8], at: usize) -> Option<Move>
+    ensures { option_map move result ≡ directive_of Kind.Copy (numbers 2 (fields_at line.now at)) }
+{
+    let [d, a] = numbers_at::<2>(line, at)?;
+    Some(Move::Copy(d, a))
+}
+
+// the line `set d k`,
+fn set_at(line: &[u8], at: usize) -> Option<Move>
+    ensures { option_map move result ≡ directive_of Kind.Set (numbers 2 (fields_at line.now at)) }
+{
+    let [d, k] = numbers_at::<2>(line, at)?;
+    Some(Move::Set(d, k))
+}
+
+// and the line `add d a k`.
+fn add_at(line: &[u8], at: usize) -> Option<Move>
+    ensures { option_map move result ≡ directive_of Kind.Add (numbers 3 (fields_at line.now at)) }
+{
+    let [d, a, k] = numbers_at::<3>(line, at)?;
+    Some(Move::Add(d, a, k))
+}
+
+// A line of a kind that can stand where it does.
+fn read_kind(kind: Kind, line: &[u8], at: usize, progress: &mut Progress) -> Result<(), LineFault>
+    requires standing { Standing progress.old kind }
+    requires room { progress.old.lines < 65536 }
+    ensures { LineStep progress.old progress.new
+        (directive_of kind (numbers_for progress.old.plan.sizes.words kind (fields_at line.now at)))
         result }
 {
     match kind {
-        Kind::Plan => read_plan_lines::plan_line(line, at, p, plan),
-        Kind::Job => read_plan_lines::job_line(line, at, p, plan),
-        Kind::Block => read_plan_lines::block_line(line, at, p, plan),
-        Kind::Update => read_update_lines::update_line(three_at(line, at, 1), p, plan),
-        Kind::Copy => read_update_lines::move_line(MoveKind::Copy, three_at(line, at, 2), p, plan),
-        Kind::Set => read_update_lines::move_line(MoveKind::Set, three_at(line, at, 2), p, plan),
-        Kind::Add => read_update_lines::move_line(MoveKind::Add, three_at(line, at, 3), p, plan),
-        Kind::Call => read_entry_lines::entry_line(
-            EntryKind::Call,
-            three_at(line, at, 2),
-            p,
-            notes,
-        ),
-        Kind::Step => read_entry_lines::step_line(line, at, p, notes),
-        Kind::Unknown => LineRead::Refused(Fault::Unknown, p.lines + 1),
+        Kind::Plan => plan_line(line, at, progress),
+        Kind::Job => job_line(line, at, progress),
+        Kind::Block => block_line(line, at, progress),
+        Kind::Update => update_line(update_at(line, at), progress),
+        Kind::Copy => move_line(copy_at(line, at), progress),
+        Kind::Set => move_line(set_at(line, at), progress),
+        Kind::Add => move_line(add_at(line, at), progress),
+        Kind::Call => call_line(line, at, progress),
+        Kind::Step => step_line(line, at, progress),
+        Kind::Unknown => unreachable!(),
     }
 }
 
 // One line, read from its own first byte.
-pub fn read_line(
-    line: &[u8],
-    form: Form,
-    p: Progress,
-    plan: &mut [u32; PLAN_PLACES],
-    notes: &mut [u32; NOTE_PLACES],
-) -> LineRead
-    requires { (p.lines < 65536) × (Consistent p plan.old × (length notes.old ≡ note_places)) }
-    ensures { LineDone form p
-        (tables_read plan.old notes.old)
-        (tables_read plan.new notes.new)
-        line.now
-        result }
+pub fn read_line(line: &[u8], form: Form, progress: &mut Progress) -> Result<(), LineFault>
+    requires { progress.old.lines < 65536 }
+    ensures { LineDone form progress.old progress.new line.now result }
 {
-    let number = p.lines + 1;
-    let end = read_fields::find(line, 0, 9);
-    let kind = read_kinds::kind_of(&line[..end]);
-    if read_kinds::is_unknown(kind) {
-        return LineRead::Refused(Fault::Unknown, number);
+    let number = progress.lines + 1;
+    let end = find(line, 0, b'\t');
+    let kind = kind_of(&line[..end]);
+    if kind == Kind::Unknown {
+        return Err(LineFault {
+            fault: Fault::Unknown,
+            line: number,
+        });
     }
-    if read_kinds::can_stand(form, p, plan, kind) {
-        return read_kind(kind, line, end + 1, p, plan, notes);
+    if !can_stand(form, progress, kind) {
+        return Err(LineFault {
+            fault: Fault::Misplaced,
+            line: number,
+        });
     }
-    LineRead::Refused(Fault::Misplaced, number)
+    read_kind(kind, line, end + 1, progress)
 }

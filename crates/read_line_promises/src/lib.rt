@@ -1,40 +1,39 @@
-// How far a reading has come, the answers of reading one line, and the kinds of lines that hold a move or an entry.
-// specs/ says what reading a line promises, and proofs/ has the laws behind it, kind by kind. No code.
+// How much of a text has been read: the plan so far, the notes on entry lines, and counts. specs/ says what always
+// holds of them and what reading one line promises, and proofs/ has the laws behind it.
 #![tactic(auto)]
 
-use spec_format::Fault;
+ghost use Rattle.read_line_promises.specs.Consistent.{Consistent};
 
-// How much of a text has been read, besides what stands in the plan's table: how many lines, jobs, blocks and single
-// entries, how many different blocks the last update writes, and how many entry lines have been noted.
-#[derive(Clone, Copy)]
+use read_tables::{Notes, Plan};
+
+// How much of a text has been read: the plan and the notes, how many lines, blocks and single entries, and how many
+// different blocks the last update writes.
+#[derive(Drop)]
 pub struct Progress {
+    pub plan: Plan,
+    pub notes: Notes,
     pub lines: usize,
-    pub jobs: usize,
     pub blocks: usize,
     pub written: usize,
     pub entries: usize,
-    pub notes: usize,
+    pub ghost consistent: { Consistent plan notes.items lines blocks written entries },
 }
 
-// The answer of one line's reading: how much has then been read, or the fault and the line's number.
-#[derive(Clone, Copy)]
-pub enum LineRead {
-    Read(Progress),
-    Refused(Fault, usize),
-}
+impl Progress {
+    ghost use Rattle.read_line_promises.specs.Promises.{Unread};
 
-// The kinds of lines that hold a move.
-#[derive(Clone, Copy)]
-pub enum MoveKind {
-    Copy,
-    Set,
-    Add,
-}
-
-// The kinds of lines that hold entries: `call job update`, `step card` and `step card n`.
-#[derive(Clone, Copy)]
-pub enum EntryKind {
-    Call,
-    Step,
-    Run,
+    // Nothing has been read.
+    #[tactic(auto, unfolding(spec_format::specs::Plan::blocks_written))]
+    pub fn blank() -> Progress
+        ensures { Unread result }
+    {
+        Progress {
+            plan: Plan::new(),
+            notes: Notes::new(),
+            lines: 0,
+            blocks: 0,
+            written: 0,
+            entries: 0,
+        }
+    }
 }

@@ -1,2 +1,2 @@
--- How many records of a schedule run, and what their notes hold.
+-- What the notes on a schedule of records hold.
 pub mod Noted

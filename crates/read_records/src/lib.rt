@@ -2,35 +2,27 @@
 // notes them one by one; everything else takes them from the notes.
 #![tactic(auto)]
 
-ghost use Rattle.read_records.specs.Noted.{to_run, Noted};
-ghost use Rattle.std.specs.Prelude.{◌≡◌};
+ghost use Rattle.read_records.specs.Noted.{Noted};
 
-use read_tables::NOTE_PLACES;
+use read_tables::{Note, Notes};
 use spec_format::Entry;
 
 // The most records that a schedule has.
 pub const MOST: usize = 4000;
 
-// How many records run: none, where there are too many.
-pub fn to_run(count: usize) -> usize
-    ensures { result ≡ to_run count }
+// Notes the records, each once and by itself, in place of what was noted; too many are not noted.
+pub fn note_records(records: &[Entry], notes: &mut Notes)
+    ensures { Noted records.now notes.new.items }
 {
-    if count > MOST {
-        return 0;
+    notes.clear();
+    if records.len() > MOST {
+        return;
     }
-    count
-}
-
-// Notes the records, each once and by itself. Answers how many there are; too many are not noted.
-pub fn note_records<'e, 'n>(records: &'e [Entry], notes: &'n mut [u32; NOTE_PLACES]) -> usize
-    ensures { Noted records.now result notes.new }
-{
-    let count = records.len();
-    let n = to_run(count);
-    let mut i = 0;
-    while i < n {
-        read_tables::note(notes, i, records[i], 1, 0);
-        i += 1;
+    for &entry in records {
+        notes.push(Note {
+            entry,
+            times: 1,
+            line: 0,
+        });
     }
-    count
 }

@@ -1,3 +1,2 @@
--- Laws that the proofs of this crate cite.
+-- Laws on reading a text line by line.
 pub mod ReadOn
-pub mod Verdicts

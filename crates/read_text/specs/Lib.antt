@@ -1,3 +1,2 @@
--- What the functions that read a whole text promise.
+-- What reading a whole text promises.
 pub mod Readings
-pub mod Cursors

@@ -1,30 +1,19 @@
--- What a text gives, by the verdict on it and the tables that it was read into. Parsed is declared in src/lib.rt.
--- Assumes nothing.
-use Rattle.std.specs.Prelude.{ℕ, ◌≤◌, ◌≡◌, List, length}
-use Rattle.spec_format.specs.declared.Verdict.{Verdict}
+-- What a text gives, by the verdict on it and what was read. Assumes nothing.
+use Rattle.std.specs.Prelude.{ℕ, ◌≤◌, ◌≡◌, List, length, Result, Ok, Err}
+use Rattle.spec_format.specs.declared.LineFault.{LineFault}
+use Rattle.spec_format.specs.Plan.{Plan}
 use Rattle.spec_format.specs.Reading.{Reading, refusal, accepted}
-use Rattle.read_tables.specs.PlanTable.{plan_in}
-use Rattle.read_tables.specs.NoteTable.{note_places, listed_in}
-use Rattle.read_text.specs.declared.Parsed.{Parsed}
+use Rattle.read_tables.specs.declared.Note.{Note}
+use Rattle.read_tables.specs.Notes.{listed_in}
+use Rattle.read_line_promises.specs.declared.Progress.{Progress}
 
--- The refusal; or the plan of the plan's table, the single entries of the first notes, and the count of all lines.
-abbrev pub reading_from : Verdict → List ℕ → ℕ → List ℕ → Reading
-reading_from (Verdict.Refused f n) t notes e = refusal f n
-reading_from (Verdict.Accepted n) t notes e = accepted (plan_in t) (listed_in notes e) n
+-- The refusal; or the plan, the single entries of the notes, and the count of all lines.
+abbrev pub reading_from : Result ℕ LineFault → Plan → List Note → Reading
+reading_from (Ok n) plan notes = accepted plan (listed_in notes) n
+reading_from (Err e) plan notes = refusal e.fault e.line
 
--- How many single entries a text gives: none, where it is refused.
-abbrev pub entry_count : Reading → ℕ
-entry_count (refusal f n) = 0
-entry_count (accepted p es n) = length es
-
--- The table of an accepted text's notes is whole.
-abbrev pub WholeNotes : Verdict → List ℕ → Type 0
-WholeNotes (Verdict.Refused f n) e = Unit {0}
-WholeNotes (Verdict.Accepted n) e = length e ≡ note_places
-
--- A text that gives r was read into the plan's table t and the table e of notes.
-pub record ReadTo (r : Reading) (parsed : Parsed) (t e : List ℕ) : Type 0 where
-  pub gives : reading_from parsed.verdict t parsed.notes e ≡ r
-  pub few_notes : parsed.notes ≤ 4000
-  pub counted : parsed.entries ≡ entry_count r
-  pub whole : WholeNotes parsed.verdict e
+-- A text that gives r was read to this verdict and progress.
+pub record ReadTo (r : Reading) (verdict : Result ℕ LineFault) (p : Progress) : Type 0 where
+  pub gives : reading_from verdict p.plan p.notes.items ≡ r
+  pub counted : p.entries ≡ length (listed_in p.notes.items)
+  pub few_entries : p.entries ≤ 4000

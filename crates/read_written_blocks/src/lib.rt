@@ -1,45 +1,31 @@
 // How many blocks an update writes, and how many words the memory has.
 #![tactic(auto)]
 
-ghost use Rattle.std.specs.Prelude.{◌≡◌, cond, ◌≤◌, ◌<◌, ◌+◌, ◌*◌};
-ghost use Rattle.spec_format.specs.Plan.{block_of, tabulate};
-ghost use Rattle.read_tables.specs.PlanTable.{target_at};
-ghost use Rattle.read_line_promises.specs.Promises.{writes_to};
+ghost use Rattle.std.specs.Prelude.{◌≡◌, ◌≤◌, ◌<◌, ◌*◌, ◌++◌, ◌∷◌, [], ◌==◌, length};
+ghost use Rattle.std.specs.List.{list_any};
+ghost use Rattle.spec_format.specs.Plan.{block_of, blocks_written, target};
 
-use read_tables::PLAN_PLACES;
-use spec_format::Sizes;
+use read_tables::target_of;
+use spec_format::{Move, Sizes};
 
-// Whether one of the n moves from move `from` on writes a block, where blocks have this size.
-fn writes_block(plan: &[u32; PLAN_PLACES], from: usize, n: usize, size: u32, block: u32) -> bool
-    requires { (from + n ≤ 512) × (0 < size) }
-    ensures { result ≡ writes_to size block (tabulate n (λ i. target_at plan.now (from + i))) }
+// Whether one of the moves writes the block that m writes, where blocks have this size.
+fn writes_block(moves: &[Move], m: Move, size: usize) -> bool
+    requires { 0 < size }
+    ensures { result ≡ list_any (λ n. block_of size (target n) == block_of size (target m)) moves.now }
 {
-    let mut i = 0;
-    while i < n {
-        if read_tables::target(plan, from + i) / size == block {
-            return true;
-        }
-        i += 1;
-    }
-    false
+    let block = target_of(m) as usize / size;
+    moves.iter().any(|n| target_of(*n) as usize / size == block)
 }
 
-// How many blocks an update writes with one more move, of word d, where it writes `blocks` of them with its n moves.
-pub fn blocks_with(
-    plan: &[u32; PLAN_PLACES],
-    from: usize,
-    n: usize,
-    size: u32,
-    d: u32,
-    blocks: usize,
-) -> usize
-    requires { (from + n ≤ 512) × ((0 < size) × (blocks ≤ 8)) }
-    ensures { result
-        ≡ cond (writes_to size (block_of size d) (tabulate n (λ i. target_at plan.now (from + i))))
-        blocks
-        (blocks + 1) }
+// How many blocks of this size the moves and one more write, where they write `blocks` of them without it.
+#[tactic(auto, using(crate::proofs::WrittenBlocks::counted_more))]
+pub fn blocks_with(moves: &[Move], m: Move, size: usize, blocks: usize) -> usize
+    requires some_words { 0 < size }
+    requires counted { blocks ≡ length (blocks_written size moves.now) }
+    requires few { blocks ≤ 8 }
+    ensures { result ≡ length (blocks_written size (moves.now ++ m ∷ [])) }
 {
-    if writes_block(plan, from, n, size, d / size) {
+    if writes_block(moves, m, size) {
         return blocks;
     }
     blocks + 1
@@ -47,8 +33,10 @@ pub fn blocks_with(
 
 // How many words the memory has.
 pub fn memory_of(sizes: Sizes) -> u32
-    requires { (sizes.blocks ≤ 16) × (sizes.words ≤ 16) }
-    ensures { (result ≡ sizes.blocks * sizes.words) × (result ≤ 256) }
+    requires blocks { sizes.blocks ≤ 16 }
+    requires words { sizes.words ≤ 16 }
+    ensures value { result ≡ sizes.blocks * sizes.words }
+    ensures most { result ≤ 256 }
 {
     sizes.blocks as u32 * sizes.words as u32
 }

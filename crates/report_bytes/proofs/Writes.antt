@@ -83,11 +83,6 @@ pub nothing : (at : ℕ) (b : List ℕ) → Writes [] 0 at b at b
 unfolding put
 nothing at b = record { next_is = omega arith; at_most = omega arith; after_is = refl }
 
--- A byte that is stored where there is room, and not stored where there is none.
-pub byte : (x at : ℕ) (b : List ℕ) → Writes (x ∷ []) 1 at b (at + 1) (set b at x)
-unfolding put
-byte x at b = record { next_is = refl; at_most = omega arith; after_is = refl }
-
 -- One turn more of a loop that writes f 0, f 1, .., each of at most k bytes.
 pub once_more : (i : ℕ) (f : ℕ → List ℕ) {k at next next' : ℕ} {before after after' : List ℕ}
     → Writes (joined i f) (k * i) at before next after

@@ -8,6 +8,7 @@ ghost use Rattle.spec_text.specs.WrittenLines.{fields_behind, line_of};
 ghost use Rattle.report_bytes.specs.Writes.{Writes};
 
 // A byte.
+#[tactic(auto, unfolding(crate::specs::Writes::put))]
 pub fn put_byte(buffer: &mut [u8], at: usize, byte: u8) -> usize
     requires { at < 4294967296 }
     ensures { Writes (byte ∷ []) 1 at buffer.old result buffer.new }
@@ -25,10 +26,8 @@ pub fn put_bytes(buffer: &mut [u8], at: usize, bytes: &[u8]) -> usize
         buffer.new }
 {
     let mut next = at;
-    let mut i = 0;
-    while i < bytes.len() {
-        next = put_byte(buffer, next, bytes[i]);
-        i += 1;
+    for byte in bytes {
+        next = put_byte(buffer, next, *byte);
     }
     next
 }
@@ -39,10 +38,10 @@ pub fn put_decimal(buffer: &mut [u8], at: usize, n: u32) -> usize
     ensures { Writes (decimal n) 10 at buffer.old result buffer.new }
 {
     if n < 10 {
-        return put_byte(buffer, at, (48 + n) as u8);
+        return put_byte(buffer, at, b'0' + n as u8);
     }
     let next = put_decimal(buffer, at, n / 10);
-    put_byte(buffer, next, (48 + n % 10) as u8)
+    put_byte(buffer, next, b'0' + (n % 10) as u8)
 }
 
 // A number in base ten, whose digits are only counted where there is no room for the first.
@@ -63,13 +62,11 @@ pub fn put_fields(buffer: &mut [u8], at: usize, numbers: &[u32]) -> usize
         (11 * length numbers.now + 1) at buffer.old result buffer.new }
 {
     let mut next = at;
-    let mut i = 0;
-    while i < numbers.len() {
-        next = put_byte(buffer, next, 9);
-        next = put_number(buffer, next, numbers[i]);
-        i += 1;
+    for n in numbers {
+        let tab = put_byte(buffer, next, b'\t');
+        next = put_number(buffer, tab, *n);
     }
-    put_byte(buffer, next, 10)
+    put_byte(buffer, next, b'\n')
 }
 
 // A line: its first field, and numbers.

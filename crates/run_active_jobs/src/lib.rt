@@ -1,61 +1,45 @@
-// Which jobs are active, and which one runs on each card, kept in the cells. Only a call and a return
-// change it.
+// Which jobs are active, and which one runs on each card, kept in the book. Only a call and a return change it.
 #![tactic(auto)]
 
-ghost use Rattle.std.specs.Prelude.{◌≡◌, ◌+◌, ◌≤◌, ◌<◌, length, set};
-ghost use Rattle.read_tables.specs.PlanTable.{sizes_in, job_at};
-ghost use Rattle.step_cells.specs.CellTable.{cell_places, places, running_at, active_at};
-ghost use Rattle.step_cells.specs.Book.{higher_of, first_on};
+ghost use Rattle.std.specs.Prelude.{◌≡◌, ◌≤◌, ◌<◌, ℕ, length, Some};
+ghost use Rattle.step_cells.specs.Book.{higher_of, first_on, with_active};
 ghost use Rattle.step_cells.specs.Fits.{PlanFits};
 
-use read_tables::PLAN_PLACES;
-use step_cells::CELL_PLACES;
+use read_tables::Plan;
+use step_cells::Book;
 
-// Of the best job so far, N where there is none, and job k: the one of higher priority.
-fn higher_of(plan: &[u32; PLAN_PLACES], best: u32, k: u32) -> u32
-    requires { ((sizes_in plan.now).jobs ≤ 16)
-        × ((best ≤ (sizes_in plan.now).jobs) × (k < (sizes_in plan.now).jobs)) }
+// Of the best job so far and job k: the one of higher priority.
+fn higher_of(plan: &Plan, best: Option<usize>, k: usize) -> Option<usize>
+    requires best { (b : ℕ) → best ≡ Some b → b < length plan.now.jobs }
+    requires k { k < length plan.now.jobs }
     ensures { result ≡ higher_of plan.now best k }
 {
-    if best == read_tables::jobs(plan) {
-        return k;
+    let jobs = plan.jobs();
+    match best {
+        Some(b) if jobs[b].priority >= jobs[k].priority => best,
+        _ => Some(k),
     }
-    if read_tables::priority(plan, best as usize) < read_tables::priority(plan, k as usize) {
-        return k;
-    }
-    best
 }
 
-// The active job of highest priority on a card, N where there is none.
-fn first_on(plan: &[u32; PLAN_PLACES], cells: &[u32; CELL_PLACES], card: u32) -> u32
-    requires { (sizes_in plan.now).jobs ≤ 16 }
-    ensures { result ≡ first_on plan.now (places cells.now active_at 16) card
-        (sizes_in plan.now).jobs }
+// The active job of highest priority on a card, where there is one.
+fn first_on(plan: &Plan, active: &[bool; 16], card: usize) -> Option<usize>
+    ensures { result ≡ first_on plan.now active.now card (length plan.now.jobs) }
 {
-    let jobs = read_tables::jobs(plan);
-    let mut best = jobs;
-    let mut k = 0;
-    while k < jobs {
-        if step_cells::is_active(cells, k as usize) {
-            if read_tables::card(plan, k as usize) == card {
-                best = higher_of(plan, best, k);
-            }
+    let mut best = None;
+    for (k, job) in plan.jobs().iter().enumerate() {
+        if active[k] && job.card == card {
+            best = higher_of(plan, best, k);
         }
-        k += 1;
     }
     best
 }
 
-// Job p is now active (1) or no longer (0): another job may then run on its card.
-pub fn set_active(plan: &[u32; PLAN_PLACES], cells: &mut [u32; CELL_PLACES], p: usize, up: u32)
-    requires { PlanFits plan.now p × (length cells.old ≡ cell_places) }
-    ensures { cells.new
-        ≡ set (set cells.old (active_at + p) up) (running_at + (job_at plan.now p).card)
-        (first_on plan.now (set (places cells.old active_at 16) p up)
-        (job_at plan.now p).card (sizes_in plan.now).jobs) }
+// Job p is now active or no longer: another job may then run on its card.
+pub fn set_active(plan: &Plan, book: &mut Book, p: usize, up: bool)
+    requires { PlanFits plan.now p }
+    ensures { book.new ≡ with_active plan.now p up book.old }
 {
-    step_cells::put_active(cells, p, up);
-    let card = read_tables::card(plan, p);
-    let first = first_on(plan, cells, card);
-    step_cells::put_running(cells, card, first);
+    book.active[p] = up;
+    let card = plan.jobs()[p].card;
+    book.running[card] = first_on(plan, &book.active, card);
 }

@@ -1,3 +1,2 @@
--- The laws of carrying out a change: the book, and each kind of change.
-pub mod BookKept
+-- The laws of carrying out a change.
 pub mod Carrying

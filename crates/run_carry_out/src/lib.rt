@@ -1,86 +1,65 @@
-// What an item changes, carried out in the tables that are lent.
+// What an item changes, carried out in the tables.
 #![tactic(auto)]
 
 ghost use Rattle.std.specs.Prelude.{◌≡◌};
-ghost use Rattle.step_cells.specs.Tables.{lent, Whole};
+ghost use Rattle.step_cells.specs.Tables.{Whole};
 ghost use Rattle.step_cells.specs.Effects.{Carried};
-ghost use Rattle.step_cells.specs.Book.{book_of, book_after};
+ghost use Rattle.step_cells.specs.Book.{book_after};
 ghost use Rattle.run_carry_out.specs.Asks.{Asks};
 
-use read_tables::PLAN_PLACES;
-use step_cells::{CELL_PLACES, Change};
+use read_tables::Plan;
+use run_active_jobs::set_active;
+use run_changes::{add_commit, clear, decide, mark, published};
+use spec_format::Sizes;
+use spec_machine::Version;
+use step_cells::{Change, Tables};
 
 // A change of job p, carried out.
-pub fn carry_out(
-    plan: &[u32; PLAN_PLACES],
-    p: usize,
-    s: Change,
-    cells: &mut [u32; CELL_PLACES],
-    stat: &mut [i32; 17],
-    store: &mut [u32],
-    addr: &mut [[u32; 16]; 16],
-    old: &mut [[u32; 16]; 16],
-    new: &mut [[u32; 16]; 16],
-    commits: &mut [[u32; 3]; 4000],
-)
-    requires { Asks plan.now p s
-        (lent cells.old stat.old store.old addr.old old.old new.old commits.old) }
-    ensures carried { Carried plan.now p s
-        (lent cells.old stat.old store.old addr.old old.old
-        new.old commits.old)
-        (lent cells.new stat.new store.new addr.new old.new
-        new.new commits.new) }
-    ensures commits_after { book_of
-        (lent cells.new stat.new store.new addr.new old.new
-        new.new commits.new)
-        ≡ book_after plan.now
-        (lent cells.old stat.old store.old addr.old old.old
-        new.old commits.old) p s }
-    ensures whole { Whole
-        (lent cells.new stat.new store.new addr.new old.new
-        new.new commits.new) }
+#[tactic(auto, using(crate::proofs::Carrying::works), unfolding(spec_machine::specs::Machine::stored))]
+pub fn carry_out(plan: &Plan, p: usize, s: Change, tables: &mut Tables)
+    requires { Asks plan.now p s tables.old }
+    ensures carried { Carried plan.now p s tables.old tables.new }
+    ensures book { tables.new.book ≡ book_after plan.now tables.old p s }
+    ensures whole { Whole tables.new }
 {
+    let Sizes { jobs, words, .. } = plan.sizes();
     match s {
         Change::Nothing => {}
-        Change::Version(count, flag) => step_cells::put_version(cells, count, flag),
-        Change::Announced(r) => step_cells::put_ann(cells, r, p as u32),
+        Change::Version(count, flag) => tables.v = Version { count, flag },
+        Change::Announced(r) => tables.ann[r as usize] = p as u32,
         Change::Returned(r) => {
-            step_cells::put_ann(cells, r, read_tables::jobs(plan));
-            run_active_jobs::set_active(plan, cells, p, 0);
+            tables.ann[r as usize] = jobs as u32;
+            set_active(plan, &mut tables.book, p, false);
         }
-        Change::Pending => run_changes::put_status(stat, p as u32, -1),
-        Change::Trans => run_changes::announce_update(cells, p),
+        Change::Pending => tables.stat[p] = -1,
+        Change::Trans => tables.trans[p] = tables.own[p].update,
         Change::Listed(i, b, number) => {
-            run_changes::put_in_row(addr, p, i, b);
-            run_changes::put_in_row(old, p, i, number);
-            run_changes::mark(cells, p, b, 1, number);
+            tables.rows.addr[p][i as usize] = b;
+            tables.rows.old[p][i as usize] = number;
+            mark(&mut tables.own[p], b, 1, number);
         }
         Change::Block(b, from, to) => {
-            let words = read_tables::words(plan) as usize;
-            run_changes::mark(cells, p, b, 2, to);
-            run_changes::copy_words(store, words, from as usize * words, to as usize * words);
+            mark(&mut tables.own[p], b, 2, to);
+            let start = from as usize * words;
+            let to = to as usize * words;
+            tables.store.copy_within(start..start + words, to);
         }
-        Change::Word(number, i, word) => run_changes::put_word(
-            store,
-            read_tables::words(plan),
-            number,
-            i,
-            word,
-        ),
+        Change::Word(number, i, word) => tables.store[number as usize * words + i as usize] = word,
         Change::Published(n) => {
-            let row = run_changes::published(cells, p, n, addr[p], new[p]);
-            new[p] = row;
-            step_cells::put_numblks(cells, p, n);
+            let addr = tables.rows.addr[p];
+            tables.rows.new[p] = published(&tables.own[p], n as usize, addr, tables.rows.new[p]);
+            tables.numblks[p] = n;
         }
-        Change::Bank(b, n) => step_cells::put_bank(cells, b, n),
-        Change::Cleared => run_changes::clear(cells, p),
+        Change::Bank(b, n) => tables.bank[b as usize] = n,
+        Change::Cleared => clear(&mut tables.own[p]),
         Change::Decided(h, n) => {
-            run_changes::put_status(stat, h, p as i32);
-            run_changes::decide(cells, p, n, addr[p], old[p]);
+            tables.stat[h as usize] = p as i32;
+            let addr = tables.rows.addr[p];
+            decide(&mut tables.own[p], n as usize, addr, tables.rows.old[p]);
         }
         Change::Commit(h) => {
-            run_changes::put_status(stat, h, read_tables::jobs(plan) as i32);
-            run_changes::add_commit(cells, commits, h);
+            tables.stat[h as usize] = jobs as i32;
+            add_commit(tables, h);
         }
     }
 }

@@ -1,5 +1,2 @@
--- The laws of the changes: words of the store, the first places of a list, and a job's own places.
-pub mod CopiedWords
+-- The first places of a list, taken one after another.
 pub mod PutOneByOne
-pub mod Clearing
-pub mod Reclaiming

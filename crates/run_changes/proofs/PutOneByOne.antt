@@ -1,15 +1,10 @@
 -- Numbers put into the first places of a list one by one, and the replaced numbers. Assumes nothing.
-use Prim.Native.Nat.{ℕ, zero, suc, ◌+◌, ◌-◌, ◌≤◌, ◌<◌}
-use mathlib.Core.Path.{◌≡◌, sym, ap, subst, ◌∙◌}
-use mathlib.Core.Bool.{cond}
-use mathlib.Core.List.{List, [], ◌∷◌, ◌++◌, append-nil}
-use native.Mathlib.Omega.{arith}
+use Rattle.std.proofs.Common.{ℕ, zero, suc, ◌≡◌, sym, ap, ◌∙◌, ◌+◌, ◌≤◌, ◌<◌, arith, cond, eqb}
+use Rattle.std.proofs.Common.{List, [], ◌∷◌, ◌++◌, length, get_or, drop, eq-eqb, ne_eqb, append-nil}
+use Rattle.std.proofs.Math.ListN.{set, length-append}
+use Rattle.std.proofs.Math.Seq.{drop-cons, append_snoc, set-append_seam}
+use native.Mathlib.Decide.{dec_lt}
 use native.Mathlib.Numerals.{add-one}
-use native.Mathlib.Nat.{add-zero, add-suc}
-use borrow.Author.Tests.{eq-eqb, ne_eqb}
-use lib.Dec.{eqb}
-use lib.ListN.{length, get_or, set, drop, length-append}
-use lib.Seq.{drop-cons, append_snoc, set-append_seam}
 use Rattle.spec_text.specs.FirstPlaces.{in_first_places}
 use Rattle.spec_format.specs.Plan.{tabulate}
 use Rattle.spec_format.proofs.Tabulated.{length-tabulate}
@@ -47,22 +42,21 @@ module _ (addr old : ℕ → ℕ) (dirty : List ℕ) where
   replaced-unwritten i h =
       rw (add-one, ne_eqb (get_or dirty (addr i) 0) 2 h) (append-nil (replaced addr old dirty i))
 
-  -- More listed blocks replace no fewer numbers,
-  grows-by : (i k : ℕ) → length (replaced addr old dirty i) ≤ length (replaced addr old dirty (i + k))
-  grows-by i zero = rw (add-zero i) (omega arith)
-  grows-by i (suc k) =
-      rw (
-        add-suc i k,
-        length-append (replaced addr old dirty (i + k))
-            (cond (eqb (get_or dirty (addr (i + k)) 0) 2) (old (i + k) ∷ []) []),
-      )
-      (omega (arith, grows-by i k))
-
-  -- by any count of them.
+  -- More listed blocks replace no fewer numbers.
   grows : (i n : ℕ) → i ≤ n → length (replaced addr old dirty i) ≤ length (replaced addr old dirty n)
-  grows i n h =
-      let e : i + (n - i) ≡ n = omega arith in
-      subst (λ k. length (replaced addr old dirty i) ≤ length (replaced addr old dirty k)) e (grows-by i (n - i))
+  grows i zero h =
+      let e : i ≡ zero = omega arith in
+      rw e (omega arith)
+  grows i (suc n) h = by (dec_lt i (suc n)) (grows i n)
+    where
+      by : Dec (i < suc n) → (i ≤ n → length (replaced addr old dirty i) ≤ length (replaced addr old dirty n))
+          → length (replaced addr old dirty i) ≤ length (replaced addr old dirty (suc n))
+      by (yes l) below =
+          rw (length-append (replaced addr old dirty n) (cond (eqb (get_or dirty (addr n) 0) 2) (old n ∷ []) []))
+          (omega (arith, below (omega arith)))
+      by (no l) below =
+          let e : i ≡ suc n = omega arith in
+          rw e (omega arith)
 
   -- Where all the numbers have room, a block written has a place for its own.
   pub has-place :

@@ -1,13 +1,6 @@
--- Which items return and which commit, told by their stores. Assumes nothing.
-use Prim.Native.Nat.{ℕ, ◌<◌}
-use mathlib.Core.Path.{◌≡◌, refl}
-use mathlib.Core.Bool.{Bool, true, false, not, cond}
-use mathlib.Core.List.{List, [], ◌∷◌}
-use Rattle.std.specs.Prelude.{Option, Some, None}
-use native.Mathlib.Omega.{arith}
-use borrow.Author.Tests.{eq-eqb, ne_eqb}
-use lib.Dec.{eqb}
-use lib.IntN.{pos}
+-- Which items return and which commit, told by their stores; and what that makes of the book. Assumes nothing.
+use Rattle.std.proofs.Common.{◌≡◌, refl, ℕ, ◌<◌, arith, Bool, true, false, not, cond, eqb, eq-eqb, ne_eqb}
+use Rattle.std.proofs.Common.{List, [], ◌∷◌, pos, Option, Some, None}
 use Rattle.spec_format.specs.declared.Move.{Move}
 use Rattle.spec_format.specs.Plan.{Plan}
 use Rattle.spec_machine.specs.declared.Stage.{Stage}
@@ -21,8 +14,11 @@ use Rattle.spec_machine.specs.Moves.{begin, onward}
 use Rattle.spec_machine.specs.Steps.{Shared, after_store, stage, item}
 use Rattle.spec_machine.proofs.Tests.{shut, shut-test, either}
 use Rattle.step_cells.specs.declared.Change.{Change}
-use Rattle.step_cells.specs.Tables.{Own}
+use Rattle.step_cells.specs.declared.Book.{Book}
+use Rattle.step_cells.specs.declared.Tables.{Tables}
+use Rattle.step_cells.specs.Tables.{own_of}
 use Rattle.step_cells.specs.Effects.{store_of}
+use Rattle.step_cells.specs.Book.{with_active, committing, book_after}
 use Rattle.run_entry.specs.Acting.{commits_at}
 
 -- Whether a store is that of a return, in a plan of so many jobs: Ann[r] becomes N.
@@ -51,78 +47,36 @@ commit_in jobs (Store.Word b i x) = None
 commit_in jobs Store.Published = None
 commit_in jobs (Store.Bank b n) = None
 
--- Whether a change is that of a return.
-abbrev pub returns_by : Change → Bool
-returns_by Change.Nothing = false
-returns_by (Change.Version n f) = false
-returns_by (Change.Announced r) = false
-returns_by (Change.Returned r) = true
-returns_by Change.Pending = false
-returns_by Change.Trans = false
-returns_by (Change.Listed i a b) = false
-returns_by (Change.Block a from to) = false
-returns_by (Change.Word b i x) = false
-returns_by (Change.Published n) = false
-returns_by (Change.Bank b n) = false
-returns_by Change.Cleared = false
-returns_by (Change.Decided h n) = false
-returns_by (Change.Commit h) = false
+-- The book of tables where the call of a job is committed, or none.
+abbrev pub committed_by : Tables → Option ℕ → Book
+committed_by x None = x.book
+committed_by x (Some h) = committing h (own_of x h).update x.book
 
--- The job whose call a change commits.
-abbrev pub commit_by : Change → Option ℕ
-commit_by Change.Nothing = None
-commit_by (Change.Version n f) = None
-commit_by (Change.Announced r) = None
-commit_by (Change.Returned r) = None
-commit_by Change.Pending = None
-commit_by Change.Trans = None
-commit_by (Change.Listed i a b) = None
-commit_by (Change.Block a from to) = None
-commit_by (Change.Word b i x) = None
-commit_by (Change.Published n) = None
-commit_by (Change.Bank b n) = None
-commit_by Change.Cleared = None
-commit_by (Change.Decided h n) = None
-commit_by (Change.Commit h) = Some h
+-- The book where job p has returned, or not.
+abbrev pub returned_by : Plan → ℕ → Bool → Book → Book
+returned_by plan p true b = with_active plan p false b
+returned_by plan p false b = b
 
-module _ (jobs p : ℕ) (o : Own) (few : p < jobs) where
-  -- Job p is not N.
-  one-job : eqb p jobs ≡ false
-  one-job = ne_eqb p jobs (λ e. omega (arith, e))
-
-  -- A change returns as its store does.
-  pub returns-so : (s : Change) → returns_by s ≡ returns_in jobs (store_of jobs p o s)
-  returns-so Change.Nothing = refl
-  returns-so (Change.Version n f) = refl
-  returns-so (Change.Announced r) = rw one-job
-  returns-so (Change.Returned r) = rw (eq-eqb jobs jobs refl)
-  returns-so Change.Pending = refl
-  returns-so Change.Trans = refl
-  returns-so (Change.Listed i a b) = refl
-  returns-so (Change.Block a from to) = refl
-  returns-so (Change.Word b i x) = refl
-  returns-so (Change.Published n) = refl
-  returns-so (Change.Bank b n) = refl
-  returns-so Change.Cleared = refl
-  returns-so (Change.Decided h n) = refl
-  returns-so (Change.Commit h) = refl
-
-  -- And it commits as its store does.
-  pub commits-so : (s : Change) → commit_by s ≡ commit_in jobs (store_of jobs p o s)
-  commits-so Change.Nothing = refl
-  commits-so (Change.Version n f) = refl
-  commits-so (Change.Announced r) = refl
-  commits-so (Change.Returned r) = refl
-  commits-so Change.Pending = refl
-  commits-so Change.Trans = refl
-  commits-so (Change.Listed i a b) = refl
-  commits-so (Change.Block a from to) = refl
-  commits-so (Change.Word b i x) = refl
-  commits-so (Change.Published n) = refl
-  commits-so (Change.Bank b n) = refl
-  commits-so Change.Cleared = refl
-  commits-so (Change.Decided h n) = rw one-job
-  commits-so (Change.Commit h) = rw (eq-eqb jobs jobs refl)
+-- What a change makes of the book, told by its store: whether it returns, and whose call it commits.
+pub book-told :
+    (plan : Plan) (x : Tables) (p : ℕ) (s : Change) → p < plan.sizes.jobs
+    → book_after plan x p s
+    ≡ returned_by plan p (returns_in plan.sizes.jobs (store_of plan.sizes.jobs p (own_of x p) s))
+    (committed_by x (commit_in plan.sizes.jobs (store_of plan.sizes.jobs p (own_of x p) s)))
+book-told plan x p Change.Nothing few = refl
+book-told plan x p (Change.Version n f) few = refl
+book-told plan x p (Change.Announced r) few = rw (ne_eqb p plan.sizes.jobs (λ e. omega arith))
+book-told plan x p (Change.Returned r) few = rw (eq-eqb plan.sizes.jobs plan.sizes.jobs refl)
+book-told plan x p Change.Pending few = refl
+book-told plan x p Change.Trans few = refl
+book-told plan x p (Change.Listed i a b) few = refl
+book-told plan x p (Change.Block a from to) few = refl
+book-told plan x p (Change.Word b i w) few = refl
+book-told plan x p (Change.Published n) few = refl
+book-told plan x p (Change.Bank b n) few = refl
+book-told plan x p Change.Cleared few = refl
+book-told plan x p (Change.Decided h n) few = rw (ne_eqb p plan.sizes.jobs (λ e. omega arith))
+book-told plan x p (Change.Commit h) few = rw (eq-eqb plan.sizes.jobs plan.sizes.jobs refl)
 
 -- The first stage of an update's moves is a place of an active job.
 begin-active : (ms : List Move) → is_active (begin ms) ≡ true

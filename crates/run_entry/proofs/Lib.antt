@@ -1,6 +1,5 @@
--- Each item from a machine in its ranges: what it asks holds, and what it changes; then calls and steps.
+-- The laws that the proofs of this crate cite.
 pub mod Items
 pub mod Ready
-pub mod Acts
-pub mod Calls
 pub mod Stepping
+pub mod Acts

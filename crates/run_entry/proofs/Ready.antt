@@ -1,36 +1,25 @@
 -- The ranges of the machine, read off as the items of the step list ask for them. Assumes what Kept says of the tables.
-use Prim.Native.Nat.{ℕ, zero, suc, ◌*◌, ◌≤◌, ◌<◌}
-use mathlib.Core.Path.{◌≡◌, refl, ap, subst, ◌∙◌}
-use mathlib.Core.Bool.{true, false, ◌||◌}
-use mathlib.Core.List.{List, [], ◌∷◌}
-use native.Mathlib.Nat.{div-lt_iff_lt-mul}
-use native.Mathlib.Omega.{arith}
-use borrow.Author.Tests.{leb-false}
-use lib.Dec.{leb}
-use lib.IntN.{pos}
-use lib.ListN.{length, get_or}
-use Rattle.spec_format.specs.declared.Job.{Job}
+use Rattle.std.proofs.Common.{◌≡◌, refl, ap, subst, ◌∙◌, ℕ, zero, suc, ◌*◌, ◌≤◌, ◌<◌, arith, div-lt_iff_lt-mul}
+use Rattle.std.proofs.Common.{true, false, ◌||◌, leb, leb-false, List, [], ◌∷◌, length, get_or, pos}
 use Rattle.spec_format.specs.declared.Move.{Move}
-use Rattle.spec_format.specs.Plan.{named}
+use Rattle.spec_format.specs.Plan.{Plan, named}
 use Rattle.spec_format.specs.Faults.{some_from}
-use Rattle.read_tables.specs.PlanTable.{sizes_in, updates_in, count_at, plan_in}
-use Rattle.read_tables.proofs.PlanIn.{job-in, count-in, move_in, updates-in}
 use Rattle.spec_machine.specs.declared.Stage.{Stage}
 use Rattle.spec_machine.specs.declared.Place.{Place}
 use Rattle.spec_machine.specs.declared.Working.{Working}
 use Rattle.spec_machine.specs.Places.{is_active}
-use Rattle.spec_machine.specs.Moves.{read, accesses, word_of, move}
+use Rattle.spec_machine.specs.Moves.{read, accesses, word_of}
 use Rattle.spec_machine.specs.Steps.{may_decide, replaced}
 use Rattle.spec_machine.specs.Machine.{in_row, shared_in, work_of}
 use Rattle.spec_machine.specs.Ranges.{WorkRanges, AtPlace, RoomFor, MoveInside}
+use Rattle.spec_machine.proofs.ListsByPlace.{get_d_any}
 use Rattle.spec_machine.proofs.Tests.{or_l, or_r}
 use Rattle.step_cells.specs.declared.Registers.{Registers}
-use Rattle.step_cells.specs.Tables.{Tables, own_of, work_with, idle, machine_of}
+use Rattle.step_cells.specs.declared.Tables.{Tables}
+use Rattle.step_cells.specs.Tables.{own_of, work_with, idle, machine_of}
 use Rattle.step_cells.specs.Effects.{Reclaims}
-use Rattle.step_cells.specs.Book.{book_of}
 use Rattle.step_cells.specs.Fits.{PlanFits, CellsFit, RegistersFit, move_for, InMove, RoomAt}
-use Rattle.step_cells.proofs.Views.{work-at}
-use Rattle.spec_machine.proofs.ListsByPlace.{get_d_any}
+use Rattle.step_cells.proofs.Works.{work-at}
 use Rattle.step_list.specs.Ready.{ReadyAt, Ready}
 use Rattle.run_entry.specs.Acting.{Kept}
 
@@ -58,35 +47,35 @@ word_below n (Move.Set d k) zero e h = leb-false n d (or_l (leb n d) false e)
 word_below n (Move.Set d k) (suc i) e h = absurd (omega arith)
 word_below n (Move.Add d a k) i e h = either-below n d a i e h
 
-module _ {t : List ℕ} {ws : List Registers} {x : Tables} (k : Kept t ws x) where
+module _ {plan : Plan} {ws : List Registers} {x : Tables} (k : Kept plan ws x) where
   -- A job of the plan is on one of its cards, and the sizes are in their ranges.
-  pub plan-fits : (p : ℕ) → p < (sizes_in t).jobs → PlanFits t p
+  pub plan-fits : (p : ℕ) → p < plan.sizes.jobs → PlanFits plan p
   plan-fits p h =
       record {
         job = h;
+        all_jobs = k.sound.all_jobs;
         jobs = k.sound.jobs;
         some_card = k.sound.some_card;
         cards = k.sound.cards;
-        card = subst (λ (j : Job). j.card < (sizes_in t).cards) (job-in t p h) (k.sound.on_card p h);
+        card = k.sound.on_card p h;
         some_word = k.sound.some_word;
         words = k.sound.words;
       }
 
-  module _ (p : ℕ) (w : Registers) (few : p < (sizes_in t).jobs) (its : get_or ws p idle ≡ w) where
+  module _ (p : ℕ) (w : Registers) (few : p < plan.sizes.jobs) (its : get_or ws p idle ≡ w) where
     -- The working record of job p.
     abbrev record_of : Working
-    record_of = work_with (own_of x.cells p) w
+    record_of = work_with (own_of x p) w
 
     -- It is the machine's.
     pub the-record : work_of (machine_of x ws) p ≡ record_of
-    the-record =
-        work-at x.cells ws p (omega (arith, few, k.sound.jobs)) ∙ ap (work_with (own_of x.cells p)) its
+    the-record = work-at x.own ws p (omega (arith, few, k.sound.jobs)) ∙ ap (work_with (own_of x p)) its
 
     -- It is in its ranges.
-    in-ranges : WorkRanges (plan_in t) (book_of x).entries record_of
-    in-ranges = subst (WorkRanges (plan_in t) (book_of x).entries) the-record (k.ranges.works p)
+    in-ranges : WorkRanges plan x.book.entries record_of
+    in-ranges = subst (WorkRanges plan x.book.entries) the-record (k.ranges.works p)
 
-    cells_fit : CellsFit x.cells p
+    cells_fit : CellsFit x p
     cells_fit =
         record {
           ann = λ r. omega (arith, k.ranges.cells.ann r, k.sound.jobs);
@@ -108,61 +97,47 @@ module _ {t : List ℕ} {ws : List Registers} {x : Tables} (k : Kept t ws x) whe
         }
 
     -- A job inside a move.
-    module _ (st : Stage) (i : MoveInside (plan_in t) st record_of) where
-      update-there : w.tr < updates_in t
-      update-there = omega (arith, within (plan_in t).updates w.tr w.index i.in_moves, updates-in t)
-
-      index-within : w.index < count_at t w.tr
-      index-within = omega (arith, i.in_moves, count-in t w.tr update-there)
-
-      -- It is at this move.
-      same_move : move (plan_in t) record_of ≡ move_for t w
-      same_move = move_in t w.tr w.index update-there index-within
-
-      in_move : InMove t w
-      in_move =
-          record {
-            updates = omega (arith, k.sound.few_updates, updates-in t);
-            update = update-there;
-            moves = omega (arith, k.sound.few_moves w.tr, count-in t w.tr update-there);
-            in_moves = index-within;
-            in_move = subst (λ mv. w.access < length (accesses mv)) same_move i.in_move;
-            in_blocks =
-                let below =
-                word_below ((sizes_in t).blocks * (sizes_in t).words) (move_for t w) w.access
-                (subst (λ mv. some_from ((sizes_in t).blocks * (sizes_in t).words) (named mv) ≡ false) same_move
-                (k.sound.in_memory w.tr w.index i.in_moves))
-                (subst (λ mv. w.access < length (accesses mv)) same_move i.in_move) in
-                let there = (div-lt_iff_lt-mul k.sound.some_word).1 below in
-                omega (arith, there, k.sound.blocks);
-          }
+    in_move : (st : Stage) → MoveInside plan st record_of → InMove plan w
+    in_move st i =
+        record {
+          updates = k.sound.few_updates;
+          update = within plan.updates w.tr w.index i.in_moves;
+          moves = k.sound.few_moves w.tr;
+          in_moves = i.in_moves;
+          in_move = i.in_move;
+          in_blocks =
+              let below =
+              word_below (plan.sizes.blocks * plan.sizes.words) (move_for plan w) w.access
+              (k.sound.in_memory w.tr w.index i.in_moves) i.in_move in
+              let there = (div-lt_iff_lt-mul k.sound.some_word).1 below in
+              omega (arith, there, k.sound.blocks);
+        }
 
     -- Room for what a stage adds, by the move that the job is at.
-    room_at : (st : Stage) → MoveInside (plan_in t) st record_of → RoomFor (plan_in t) st record_of
-        → RoomAt st t x.cells p w
-    room_at Stage.Check i h = tt
-    room_at Stage.List i h = rw (← same_move Stage.List i) h
-    room_at Stage.Copy i h = rw (← same_move Stage.Copy i) h
-    room_at Stage.Take i h = tt
-    room_at Stage.Write i h = tt
+    room_at : (st : Stage) → RoomFor plan st record_of → RoomAt st plan x p w
+    room_at Stage.Check h = tt
+    room_at Stage.List h = h
+    room_at Stage.Copy h = h
+    room_at Stage.Take h = tt
+    room_at Stage.Write h = tt
 
     -- Where H25 decides, the replaced numbers have room.
     reclaims : w.place ≡ Place.H25 → Reclaims x p w
     reclaims at-h25 decides =
         subst
         (λ (z : Working).
-        z.place ≡ Place.H25 → may_decide (plan_in t) (shared_in (plan_in t) (machine_of x ws)) p z ≡ true
-        → length (replaced (in_row x.addr p) (in_row x.old p) z.dirty z.numblks) ≤ 8)
+        z.place ≡ Place.H25 → may_decide plan (shared_in plan (machine_of x ws)) p z ≡ true
+        → length (replaced (in_row x.rows.addr p) (in_row x.rows.old p) z.dirty z.numblks) ≤ 8)
         the-record
         (k.ranges.reclaims p few)
         at-h25
         (rw
-        (get_d_any x.stat w.hid (pos (sizes_in t).jobs) (pos 0)
+        (get_d_any x.stat w.hid (pos plan.sizes.jobs) (pos 0)
         (omega (arith, k.whole.stat, registers-fit.hid)))
         decides)
 
     -- What the place says of the record, as the item at the place asks for it.
-    at_place : (place : Place) → w.place ≡ place → AtPlace (plan_in t) record_of place → ReadyAt t p w x place
+    at_place : (place : Place) → w.place ≡ place → AtPlace plan record_of place → ReadyAt plan p w x place
     at_place Place.Idle e h = tt
     at_place Place.A1 e h = tt
     at_place Place.A2 e h = tt
@@ -176,11 +151,9 @@ module _ {t : List ℕ} {ws : List Registers} {x : Tables} (k : Kept t ws x) whe
     at_place Place.H17 e h = tt
     at_place Place.H21 e h =
         let own = in-ranges.update (ap is_active e) in
-        let named = k.ranges.cells.trans w.hid (omega (arith, own)) in (
-          omega (arith, h, k.sound.jobs),
-          (omega (arith, k.sound.few_updates, updates-in t), omega (arith, named, updates-in t)),
-        )
-    at_place (Place.Move st) e h = (in_move st h.1.0, room_at st h.1.0 h.1.1)
+        let named = k.ranges.cells.trans w.hid (omega (arith, own)) in
+        (omega (arith, h, k.sound.jobs), (k.sound.few_updates, named))
+    at_place (Place.Move st) e h = (in_move st h.1.0, room_at st h.1.1)
     at_place Place.H22 e h = tt
     at_place Place.H25 e h = reclaims e
     at_place Place.H32 e h = tt
@@ -192,14 +165,12 @@ module _ {t : List ℕ} {ws : List Registers} {x : Tables} (k : Kept t ws x) whe
     at_place Place.H42 e h = omega (arith, h, k.sound.jobs)
 
     -- All that the item of job p asks.
-    pub ready : Ready t p w x
+    pub ready : Ready plan p w x
     ready =
         record {
-          plan = plan-fits p few;
+          fits = plan-fits p few;
           cells = cells_fit;
           registers = registers-fit;
           rows = λ j i. (k.ranges.rows.addr j i, (k.ranges.rows.old j i, k.ranges.rows.new j i));
-          all_stat = k.whole.stat;
-          all_store = k.whole.store;
           at_place = at_place w.place refl in-ranges.at_place;
         }

@@ -1,3 +1,2 @@
--- Laws of the jobs that run on a card, and of the book as a job becomes active or returns.
-pub mod RunsOn
+-- Laws of the book as a job becomes active or returns.
 pub mod WhoRuns

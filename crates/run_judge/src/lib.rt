@@ -2,83 +2,69 @@
 #![tactic(auto)]
 
 ghost use Rattle.std.specs.Prelude.{◌≡◌, ◌≤◌};
-ghost use Rattle.read_tables.specs.PlanTable.{sizes_in, plan_in};
 ghost use Rattle.spec_machine.specs.Machine.{Machine};
-ghost use Rattle.spec_machine.specs.Entries.{judge_call, judge_step, judge as judgeEntry, refusal_number as number_of};
-ghost use Rattle.step_cells.specs.Tables.{Tables};
-ghost use Rattle.step_cells.specs.Book.{book_of};
+ghost use Rattle.spec_machine.specs.Entries.{judge_call, judge_step, judge, refusal_number};
 ghost use Rattle.run_judge.specs.WhoRuns.{ActiveAre, WhoRuns};
-ghost use Rattle.run_judge.specs.Rulings.{refusal_numbered, other_after, unless_halted, ruling_of, changed_by};
+ghost use Rattle.run_judge.specs.Rulings.{other_after, unless_halted, ruling_of, changed_by};
 
-use read_tables::PLAN_PLACES;
+use read_tables::Plan;
 use spec_format::Entry;
 use spec_machine::{Judgement, Refusal};
-use step_cells::CELL_PLACES;
+use step_cells::Tables;
 
-// What a record comes to: the judgement, and the place of the first record of another kind so far, 0 where there is
-// none.
+// What a record comes to: the judgement, and the place of the first record of another kind so far.
 #[derive(Clone, Copy)]
 pub struct Ruling {
     pub judgement: Judgement,
-    pub other: u32,
+    pub other: Option<usize>,
 }
 
 // A call is judged: 11, no such job or no such update; then 12, job active.
-fn judge_call(
-    plan: &[u32; PLAN_PLACES],
-    cells: &[u32; CELL_PLACES],
-    job: u32,
-    update: u32,
-) -> Judgement
-    requires { (sizes_in plan.now).jobs ≤ 16 }
-    ensures { (m : Machine) (x : Tables) → x.cells ≡ cells.now → ActiveAre m (book_of x).active
-        → result ≡ judge_call (plan_in plan.now) m job update }
+fn judge_call(plan: &Plan, tables: &Tables, job: usize, update: usize) -> Judgement
+    requires { plan.now.sizes.jobs ≤ 16 }
+    ensures { (m : Machine) → ActiveAre m tables.now.book.active
+        → result ≡ judge_call plan.now m job update }
 {
-    if read_tables::jobs(plan) <= job {
+    if plan.sizes().jobs <= job || plan.updates() <= update {
         return Judgement::Refused(Refusal::NoSuch);
     }
-    if read_tables::updates(plan) <= update as usize {
-        return Judgement::Refused(Refusal::NoSuch);
-    }
-    if step_cells::is_active(cells, job as usize) {
+    if tables.book.active[job] {
         return Judgement::Refused(Refusal::Active);
     }
-    Judgement::Calls(job as usize, update as usize)
+    Judgement::Calls(job, update)
 }
 
 // A step is judged: 13, card not below P; then 14, no job active on the card.
-fn judge_step(plan: &[u32; PLAN_PLACES], cells: &[u32; CELL_PLACES], card: u32) -> Judgement
-    requires { (sizes_in plan.now).cards ≤ 8 }
-    ensures { (m : Machine) (x : Tables) → x.cells ≡ cells.now
-        → WhoRuns plan.now m (book_of x)
-        → result ≡ judge_step (plan_in plan.now) m card }
+fn judge_step(plan: &Plan, tables: &Tables, card: usize) -> Judgement
+    requires { plan.now.sizes.cards ≤ 8 }
+    ensures { (m : Machine) → WhoRuns plan.now m tables.now.book → result ≡ judge_step plan.now m card }
 {
-    if read_tables::cards(plan) <= card {
+    if plan.sizes().cards <= card {
         return Judgement::Refused(Refusal::NoCard);
     }
-    let p = step_cells::running(cells, card);
-    if p == read_tables::jobs(plan) {
-        return Judgement::Refused(Refusal::NoneActive);
+    match tables.book.running[card] {
+        Some(p) => Judgement::Runs(p),
+        None => Judgement::Refused(Refusal::NoneActive),
     }
-    Judgement::Runs(p as usize)
 }
 
 // What an entry comes to: kind 0 calls job `first` with update `second`, any other steps card `first`.
-fn judge(plan: &[u32; PLAN_PLACES], cells: &[u32; CELL_PLACES], e: Entry) -> Judgement
-    requires { ((sizes_in plan.now).jobs ≤ 16) × ((sizes_in plan.now).cards ≤ 8) }
-    ensures { (m : Machine) (x : Tables) → x.cells ≡ cells.now
-        → WhoRuns plan.now m (book_of x)
-        → result ≡ judgeEntry (plan_in plan.now) m e }
+#[tactic(auto, unfolding(spec_machine::specs::Entries::judge))]
+fn judge(plan: &Plan, tables: &Tables, e: Entry) -> Judgement
+    requires jobs { plan.now.sizes.jobs ≤ 16 }
+    requires cards { plan.now.sizes.cards ≤ 8 }
+    ensures { (m : Machine) → WhoRuns plan.now m tables.now.book → result ≡ judge plan.now m e }
 {
-    if e.kind == 0 {
-        return judge_call(plan, cells, e.first, e.second);
+    match e.kind {
+        0 => judge_call(plan, tables, e.first as usize, e.second as usize),
+        _ => judge_step(plan, tables, e.first as usize),
     }
-    judge_step(plan, cells, e.first)
 }
 
 // The number of a refusal in the table.
 pub fn refusal_number(refusal: Refusal) -> u32
-    ensures { (result ≡ number_of refusal) × (result ≤ 15) }
+    ensures value { result ≡ refusal_number refusal }
+    ensures most { result ≤ 15 }
 {
     match refusal {
         Refusal::NoSuch => 11,
@@ -88,72 +74,47 @@ pub fn refusal_number(refusal: Refusal) -> u32
     }
 }
 
-// The refusal of a number from 11 to 14.
-pub fn refusal_numbered(n: u32) -> Refusal
-    ensures { result ≡ refusal_numbered n }
-{
-    if n == 11 {
-        return Refusal::NoSuch;
-    }
-    if n == 12 {
-        return Refusal::Active;
-    }
-    if n == 13 {
-        return Refusal::NoCard;
-    }
-    Refusal::NoneActive
-}
-
 // The place of the first record of another kind, with one more record.
-fn other_after(other: u32, place: u32, kind: u32) -> u32
+fn other_after(other: Option<usize>, place: usize, kind: u32) -> Option<usize>
     ensures { result ≡ other_after other place kind }
 {
-    if other > 0 {
-        return other;
+    match other {
+        None if kind > 1 => Some(place),
+        _ => other,
     }
-    if kind > 1 {
-        return place;
-    }
-    0
 }
 
 // The judgement on an entry, unless the run has stopped: then it is refused as the one that stopped it.
-fn judge_going(plan: &[u32; PLAN_PLACES], cells: &[u32; CELL_PLACES], e: Entry) -> Judgement
-    requires { ((sizes_in plan.now).jobs ≤ 16) × ((sizes_in plan.now).cards ≤ 8) }
-    ensures { (m : Machine) (x : Tables) → x.cells ≡ cells.now
-        → WhoRuns plan.now m (book_of x)
-        → result ≡ unless_halted (book_of x).halt (judgeEntry (plan_in plan.now) m e) }
+fn judge_going(plan: &Plan, tables: &Tables, e: Entry) -> Judgement
+    requires jobs { plan.now.sizes.jobs ≤ 16 }
+    requires cards { plan.now.sizes.cards ≤ 8 }
+    ensures { (m : Machine) → WhoRuns plan.now m tables.now.book
+        → result ≡ unless_halted tables.now.book.halt (judge plan.now m e) }
 {
-    let halt = step_cells::halt(cells);
-    if halt == 0 {
-        return judge(plan, cells, e);
+    match tables.book.halt {
+        None => judge(plan, tables, e),
+        Some(refusal) => Judgement::Refused(refusal),
     }
-    Judgement::Refused(refusal_numbered(halt))
 }
 
 // What the record at a place, from 1, comes to.
-pub fn judge_record<'a, 'c>(
-    plan: &'a [u32; PLAN_PLACES],
-    cells: &'c [u32; CELL_PLACES],
-    place: usize,
-    e: Entry,
-) -> Ruling
-    requires { ((sizes_in plan.now).jobs ≤ 16) × (((sizes_in plan.now).cards ≤ 8) × (place ≤ 4000)) }
-    ensures { (m : Machine) (x : Tables) → x.cells ≡ cells.now
-        → WhoRuns plan.now m (book_of x)
-        → result ≡ ruling_of (plan_in plan.now) m (book_of x) place e }
+pub fn judge_record(plan: &Plan, tables: &Tables, place: usize, e: Entry) -> Ruling
+    requires jobs { plan.now.sizes.jobs ≤ 16 }
+    requires cards { plan.now.sizes.cards ≤ 8 }
+    ensures { (m : Machine) → WhoRuns plan.now m tables.now.book
+        → result ≡ ruling_of plan.now m tables.now.book place e }
 {
-    let judgement = judge_going(plan, cells, e);
-    let other = other_after(step_cells::other(cells), place as u32, e.kind);
-    Ruling { judgement, other }
+    Ruling {
+        judgement: judge_going(plan, tables, e),
+        other: other_after(tables.book.other, place, e.kind),
+    }
 }
 
 // The job that a judged record changes, 0 where it is refused.
 pub fn changed(ruling: Ruling) -> usize
     ensures { result ≡ changed_by ruling.judgement }
 {
-    let judgement = ruling.judgement;
-    match judgement {
+    match ruling.judgement {
         Judgement::Calls(job, _) => job,
         Judgement::Runs(p) => p,
         Judgement::Refused(_) => 0,

@@ -85,7 +85,7 @@ module _ (plan : Plan) where
   rows_more : (all : List Entry) (h : List Event) (e : Event) (b : Bool) → is_commit e ≡ b
       → rows_in all (commits_in (h ++ (e ∷ [])))
       ≡ rows_in all (commits_in h)
-      ++ cond b ((e.entry ∷ job_of all e.helped ∷ update_of all e.helped ∷ []) ∷ []) []
+      ++ cond b (record { entry = e.entry; job = job_of all e.helped; update = update_of all e.helped } ∷ []) []
   rows_more all h e true t = ap (rows_in all) (commits-last h e t) ∙ map-append (row_in all) (commits_in h) _
   rows_more all h e false t = ap (rows_in all) (commits-out h e t) ∙ sym (append-nil _)
 
@@ -101,10 +101,11 @@ module _ (plan : Plan) where
       ≡ rows_in (es ++ more) (commits_in (run_of plan es).history)
       ++ cond
       (eqb (label (work_of (run_of plan es).machine p).place) 42 && (item_of plan (run_of plan es).machine p).done)
-      (((length (run_of plan es).history + 1)
-      ∷ (work_of (run_of plan es).machine p).hid
-      ∷ (work_of (run_of plan es).machine (work_of (run_of plan es).machine p).hid).update
-      ∷ [])
+      (record {
+        entry = length (run_of plan es).history + 1;
+        job = (work_of (run_of plan es).machine p).hid;
+        update = (work_of (run_of plan es).machine (work_of (run_of plan es).machine p).hid).update;
+      }
       ∷ [])
       []
   rows_step ok es more p has = by _ refl
@@ -123,7 +124,14 @@ module _ (plan : Plan) where
       by : (b : Bool) → is_commit event ≡ b
           → rows_in (es ++ more) (commits_in (h ++ (event ∷ [])))
           ≡ rows_in (es ++ more) (commits_in h)
-          ++ cond b (((length h + 1) ∷ (work_of m p).hid ∷ (work_of m (work_of m p).hid).update ∷ []) ∷ []) []
+          ++ cond b
+          (record {
+            entry = length h + 1;
+            job = (work_of m p).hid;
+            update = (work_of m (work_of m p).hid).update;
+          }
+          ∷ [])
+          []
       by false t = rows_more (es ++ more) h event false t
       by true t =
           let named =
@@ -132,7 +140,7 @@ module _ (plan : Plan) where
           in
           rows_more (es ++ more) h event true t
           ∙ ap (λ l. rows_in (es ++ more) (commits_in h) ++ (l ∷ []))
-          (λ i. (length h + 1) ∷ named.0 i ∷ named.1 i ∷ [])
+          (λ i. record { entry = length h + 1; job = named.0 i; update = named.1 i })
 
   -- Some entries, none of them refused, come to the state and the history of a run.
   record AcceptedIn (r : Run) : Type 0 where

@@ -4,17 +4,15 @@
 use Prim.Native.Nat.{ℕ, suc, ◌+◌, ◌≤◌, ◌<◌}
 use native.Mathlib.Omega.{arith}
 use mathlib.Core.Path.{◌≡◌, refl, sym, ◌∙◌, ap, subst}
-use mathlib.Core.Bool.{Bool, true, false, cond}
 use mathlib.Core.List.{List, [], ◌∷◌, ◌++◌, append-nil}
-use Rattle.std.specs.Prelude.{Some, None}
-use lib.Dec.{eqb}
-use lib.ListN.{length, take, length-append}
+use Rattle.std.specs.Prelude.{Option, Some, None}
+use lib.ListN.{length, length-append}
 use Rattle.spec_format.specs.declared.Entry.{Entry}
 use Rattle.spec_format.specs.Plan.{Plan}
 use Rattle.spec_format.specs.Sound.{Sound}
-use Rattle.read_tables.specs.PlanTable.{plan_in}
 use Rattle.spec_machine.specs.declared.Working.{Working}
 use Rattle.spec_machine.specs.declared.Judgement.{Judgement}
+use Rattle.spec_machine.specs.declared.Refusal.{Refusal}
 use Rattle.spec_machine.specs.Places.{is_active}
 use Rattle.spec_machine.specs.Machine.{Machine}
 use Rattle.spec_machine.specs.Entries.{judge, acted}
@@ -22,32 +20,26 @@ use Rattle.spec_machine.specs.History.{Event, commits_in, history_after, refusal
 use Rattle.spec_machine.specs.Ranges.{Ranges}
 use Rattle.spec_machine.proofs.ListMachine.{call-judged, step-judged, job-seen}
 use Rattle.step_cells.specs.declared.Registers.{Registers}
-use Rattle.step_cells.specs.Tables.{Tables, machine_of}
-use Rattle.step_cells.specs.Book.{book_of}
-use Rattle.run_judge.specs.Rulings.{refusal_numbered, halt_of, other_after, unless_halted, changed_by}
-use Rattle.run_judge.proofs.WhoRuns.{halted-is}
+use Rattle.step_cells.specs.declared.Tables.{Tables}
+use Rattle.step_cells.specs.Tables.{machine_of}
+use Rattle.run_judge.specs.Rulings.{other_after, unless_halted, changed_by}
 use Rattle.run_entry.specs.Acting.{rows_by, entries_by, halt_by, Judged, Kept, Acts}
 use Rattle.run_loop.specs.CommitRows.{rows_in}
-use Rattle.run_loop.specs.RunReached.{place_noted, Reached}
+use Rattle.run_loop.specs.RunReached.{Reached}
 use Rattle.run_loop.proofs.NextEntry.{run_more, run-stopped, rows-call, rows_step, accepted-range}
 use Rattle.run_loop.proofs.Others.{other-kept}
 
--- A judgement that no refusal is was made while the run went on: it is the judgement on the entry, and no number of a
--- refusal is kept.
-went_on : (halt : ℕ) (a j : Judgement) → refusal_in j ≡ None → unless_halted halt a ≡ j → (a ≡ j)
-    × (halt_of halt ≡ None)
-went_on halt a j ok = by (eqb halt 0)
-  where
-    -- by whether the run goes on
-    by : (b : Bool) → cond b a (Judgement.Refused (refusal_numbered halt)) ≡ j
-        → (a ≡ j) × (cond b None (Some (refusal_numbered halt)) ≡ None)
-    by true is = (is, refl)
-    by false is =
-        let z : Some (refusal_numbered halt) ≡ None = ap refusal_in is ∙ ok in
-        let n : ◌≡◌ {A = ℕ} 0 1 = cc in absurd (omega arith)
+-- A judgement that no refusal is was made while the run went on: it is the judgement on the entry, and no refusal is
+-- kept.
+went_on : (halt : Option Refusal) (a j : Judgement) → refusal_in j ≡ None → unless_halted halt a ≡ j
+    → (a ≡ j) × (halt ≡ None)
+went_on None a j ok is = (is, refl)
+went_on (Some r) a j ok is =
+    let z : Some r ≡ None = ap refusal_in is ∙ ok in
+    cc
 
 -- A judgement that an entry can meet after n entries.
-judged-so : (plan : Plan) (m : Machine) (e : Entry) (halt n : ℕ) (j : Judgement) → n < 4000
+judged-so : (plan : Plan) (m : Machine) (e : Entry) (halt : Option Refusal) (n : ℕ) (j : Judgement) → n < 4000
     → unless_halted halt (judge plan m e) ≡ j → Judged plan m n j
 judged-so plan m e halt n (Judgement.Calls job u) few is =
     let a = call-judged plan m e job u (went_on halt (judge plan m e) (Judgement.Calls job u) refl is).0 in
@@ -67,31 +59,22 @@ changed-below plan m n (Judgement.Runs p) ok h = omega (arith, h.0, ok.jobs)
 changed-below plan m n (Judgement.Refused x) ok h = omega arith
 
 -- A run after one more entry that is judged so: where it has stopped, it is refused as the one that stopped it.
-next-run : (plan : Plan) (es : List Entry) (e : Entry) (halt : ℕ) (j : Judgement)
-    → halt_of halt ≡ (run_of plan es).refusal → unless_halted halt (judge plan (run_of plan es).machine e) ≡ j
+next-run : (plan : Plan) (es : List Entry) (e : Entry) (halt : Option Refusal) (j : Judgement)
+    → halt ≡ (run_of plan es).refusal → unless_halted halt (judge plan (run_of plan es).machine e) ≡ j
     → run_of plan (es ++ (e ∷ [])) ≡ judged plan (run_of plan es) j
 unfolding acted
-next-run plan es e halt j = by (eqb halt 0)
-  where
-    -- the run so far
-    r : Run
-    r = run_of plan es
-
-    -- by whether it goes on
-    by : (b : Bool) → cond b None (Some (refusal_numbered halt)) ≡ r.refusal
-        → cond b (judge plan r.machine e) (Judgement.Refused (refusal_numbered halt)) ≡ j
-        → run_of plan (es ++ (e ∷ [])) ≡ judged plan r j
-    by true stopped is = run_more plan es e (sym stopped) ∙ ap (judged plan r) is
-    by false stopped is =
-        run-stopped plan es (e ∷ []) (refusal_numbered halt) (sym stopped)
-        ∙ ap (λ f. record { machine = r.machine; history = r.history; refusal = f }) (sym stopped)
-        ∙ ap (judged plan r) is
+next-run plan es e None j stopped is = run_more plan es e (sym stopped) ∙ ap (judged plan (run_of plan es)) is
+next-run plan es e (Some x) j stopped is =
+    let r = run_of plan es in
+    run-stopped plan es (e ∷ []) x (sym stopped)
+    ∙ ap (λ f. record { machine = r.machine; history = r.history; refusal = f }) (sym stopped)
+    ∙ ap (judged plan r) is
 
 -- What is kept of the refusal that stopped the run.
-halted : (halt : ℕ) (a j : Judgement) → unless_halted halt a ≡ j → halt_of (halt_by j halt) ≡ refusal_in j
+halted : (halt : Option Refusal) (a j : Judgement) → unless_halted halt a ≡ j → halt_by j halt ≡ refusal_in j
 halted halt a (Judgement.Calls job u) is = (went_on halt a (Judgement.Calls job u) refl is).1
 halted halt a (Judgement.Runs p) is = (went_on halt a (Judgement.Runs p) refl is).1
-halted halt a (Judgement.Refused x) is = halted-is x
+halted halt a (Judgement.Refused x) is = refl
 
 -- How many events there are.
 history-after-many : (plan : Plan) (m : Machine) (h : List Event) (j : Judgement)
@@ -123,13 +106,10 @@ rows-by plan ok es more k n (Judgement.Runs p) h many =
 rows-by plan ok es more k n (Judgement.Refused x) h many = append-nil _
 
 -- The next entry e of a schedule, where the entries done have run.
-module _ (t : List ℕ) (all done rest : List Entry) (e : Entry) {ws : List Registers} {x : Tables}
-    (ok : Sound (plan_in t)) (few : length all ≤ 4000) (all_are : all ≡ done ++ (e ∷ rest))
-    (g : Reached t all done ws x) where
-  -- The plan, the state and the run so far.
-  abbrev plan : Plan
-  plan = plan_in t
-
+module _ (plan : Plan) (all done rest : List Entry) (e : Entry) {ws : List Registers} {x : Tables}
+    (ok : Sound plan) (few : length all ≤ 4000) (all_are : all ≡ done ++ (e ∷ rest))
+    (g : Reached plan all done ws x) where
+  -- The state and the run so far.
   abbrev m : Machine
   m = machine_of x ws
 
@@ -141,16 +121,16 @@ module _ (t : List ℕ) (all done rest : List Entry) (e : Entry) {ws : List Regi
   fewer-done = omega (arith, few, ap (λ (es : List Entry). length es) all_are, length-append done (e ∷ rest))
 
   -- And so fewer are accepted.
-  fewer : (book_of x).entries < 4000
+  fewer : x.book.entries < 4000
   fewer = omega (arith, fewer-done, g.few_done)
 
   -- All that acting on an entry asks of the tables.
-  pub kept : Kept t ws x
+  pub kept : Kept plan ws x
   kept =
       record {
         sound = ok;
         ranges =
-            subst (λ (y : Machine). Ranges plan (book_of x).entries y) (sym g.machine_is)
+            subst (λ (y : Machine). Ranges plan x.book.entries y) (sym g.machine_is)
             (subst (λ (k : ℕ). Ranges plan k run.machine) (sym g.counted) (accepted-range plan ok done));
         whole = g.whole;
         all_registers = g.all_registers;
@@ -160,21 +140,21 @@ module _ (t : List ℕ) (all done rest : List Entry) (e : Entry) {ws : List Regi
       }
 
   -- An entry that is judged so.
-  module _ (j : Judgement) (is : unless_halted (book_of x).halt (judge plan m e) ≡ j) where
+  module _ (j : Judgement) (is : unless_halted x.book.halt (judge plan m e) ≡ j) where
     -- It is one that acting can meet.
-    pub met : Judged plan m (book_of x).entries j
-    met = judged-so plan m e (book_of x).halt (book_of x).entries j fewer is
+    pub met : Judged plan m x.book.entries j
+    met = judged-so plan m e x.book.halt x.book.entries j fewer is
 
     -- The run with it.
     next : run_of plan (done ++ (e ∷ [])) ≡ judged plan run j
     next =
-        next-run plan done e (book_of x).halt j g.stopped_by
-        (ap (λ (y : Machine). unless_halted (book_of x).halt (judge plan y e)) (sym g.machine_is) ∙ is)
+        next-run plan done e x.book.halt j g.stopped_by
+        (ap (λ (y : Machine). unless_halted x.book.halt (judge plan y e)) (sym g.machine_is) ∙ is)
 
     -- It has been acted on.
     pub acted-on : {ws' : List Registers} {y : Tables}
-        → Acts t j (other_after (book_of x).other (suc (length done)) e.kind) ws x ws' y → length ws' ≡ 16
-        → Reached t all (done ++ (e ∷ [])) ws' y
+        → Acts plan j (other_after x.book.other (suc (length done)) e.kind) ws x ws' y → length ws' ≡ 16
+        → Reached plan all (done ++ (e ∷ [])) ws' y
     acted-on {ws'} {y} a sixteen =
         record {
           machine_is =
@@ -182,8 +162,8 @@ module _ (t : List ℕ) (all done rest : List Entry) (e : Entry) {ws : List Regi
               ∙ ap (λ (z : Machine). acted plan z j) g.machine_is
               ∙ ap (λ (r : Run). r.machine) (sym next);
           stopped_by =
-              ap halt_of a.halt_is
-              ∙ halted (book_of x).halt (judge plan m e) j is
+              a.halt_is
+              ∙ halted x.book.halt (judge plan m e) j is
               ∙ ap (λ (r : Run). r.refusal) (sym next);
           who_runs = a.who_runs;
           counted =
@@ -195,7 +175,7 @@ module _ (t : List ℕ) (all done rest : List Entry) (e : Entry) {ws : List Regi
               omega (
                 arith,
                 a.entries_are,
-                one_at_most j (book_of x).entries,
+                one_at_most j x.book.entries,
                 g.few_done,
                 length-append done (e ∷ []),
               );
@@ -205,24 +185,24 @@ module _ (t : List ℕ) (all done rest : List Entry) (e : Entry) {ws : List Regi
               ∙ rows-after
               ∙ ap (λ (r : Run). rows_in all (commits_in r.history)) (sym next);
           other_is =
-              ap place_noted a.other_is
-              ∙ other-kept done e (book_of x).other (suc (length done)) g.other_is refl;
+              a.other_is
+              ∙ other-kept done e x.book.other (suc (length done)) g.other_is refl;
           whole = a.whole;
           all_registers = sixteen;
         }
       where
         rows-after :
-            take (book_of x).committed x.commits ++ rows_by plan m j (book_of x).entries
+            x.book.commits.items ++ rows_by plan m j x.book.entries
             ≡ rows_in all (commits_in (history_after plan run.machine run.history j))
         rows-after =
-            ap (λ l. l ++ rows_by plan m j (book_of x).entries) g.rows_are
+            ap (λ l. l ++ rows_by plan m j x.book.entries) g.rows_are
             ∙ ap
-            (λ (y : Machine). rows_in all (commits_in run.history) ++ rows_by plan y j (book_of x).entries)
+            (λ (y : Machine). rows_in all (commits_in run.history) ++ rows_by plan y j x.book.entries)
             g.machine_is
             ∙ subst
             (λ (es : List Entry).
-            rows_in es (commits_in run.history) ++ rows_by plan run.machine j (book_of x).entries
+            rows_in es (commits_in run.history) ++ rows_by plan run.machine j x.book.entries
             ≡ rows_in es (commits_in (history_after plan run.machine run.history j)))
             (sym all_are)
-            (rows-by plan ok done (e ∷ rest) (book_of x).entries (book_of x).entries j
-            (subst (λ (y : Machine). Judged plan y (book_of x).entries j) g.machine_is met) g.counted)
+            (rows-by plan ok done (e ∷ rest) x.book.entries x.book.entries j
+            (subst (λ (y : Machine). Judged plan y x.book.entries j) g.machine_is met) g.counted)

@@ -13,7 +13,6 @@ use lib.ListN.{length}
 use Rattle.spec_format.specs.declared.Entry.{Entry}
 use Rattle.spec_report.specs.Outcomes.{is_other, other_from}
 use Rattle.run_judge.specs.Rulings.{other_after}
-use Rattle.run_loop.specs.RunReached.{place_noted}
 
 -- The first of two places, where there is one.
 abbrev or_else : Option ℕ → Option ℕ → Option ℕ
@@ -53,27 +52,20 @@ other-more k (x ∷ es) e = by (is_other x) (other-more (k + 1) es e)
         more ∙ ap (λ n. or_else (other_from (k + 1) es) (cond (is_other e) (Some n) None)) same
 
 -- What the code keeps of it.
-pub other-kept : (es : List Entry) (e : Entry) (other place : ℕ) → place_noted other ≡ other_from 1 es
+pub other-kept : (es : List Entry) (e : Entry) (other : Option ℕ) (place : ℕ) → other ≡ other_from 1 es
     → place ≡ suc (length es)
-    → place_noted (other_after other place e.kind) ≡ other_from 1 (es ++ (e ∷ []))
+    → other_after other place e.kind ≡ other_from 1 (es ++ (e ∷ []))
 other-kept es e other place was here =
     by other
-    ∙ ap (λ q. or_else q (cond (is_other e) (Some (suc (length es))) None)) was
+    ∙ ap (λ q. or_else q (cond (is_other e) (Some place) None)) was
     ∙ ap (λ n. or_else (other_from 1 es) (cond (is_other e) (Some n) None)) one_more
     ∙ sym (other-more 1 es e)
   where
     -- the place behind these records
-    one_more : suc (length es) ≡ 1 + length es
+    one_more : place ≡ 1 + length es
     one_more = omega arith
 
-    -- where there was none
-    new : (b : Bool) → place_noted (cond b place 0) ≡ cond b (Some (suc (length es))) None
-    new true = ap place_noted here
-    new false = refl
-
     -- by whether there was one
-    by : (n : ℕ)
-        → place_noted (other_after n place e.kind)
-        ≡ or_else (place_noted n) (cond (is_other e) (Some (suc (length es))) None)
-    by zero = new (ltb 1 e.kind) ∙ ap (λ b. cond b (Some (suc (length es))) None) (sym (over-one e))
-    by (suc n) = rw (lt-ltb 0 (suc n) (omega arith))
+    by : (o : Option ℕ) → other_after o place e.kind ≡ or_else o (cond (is_other e) (Some place) None)
+    by None = ap (λ b. cond b (Some place) None) (sym (over-one e))
+    by (Some n) = refl

@@ -1,83 +1,59 @@
--- The opening of a sound plan is where a run of records starts. A text's entries start there too. Assumes a sound
--- plan.
-use Prim.Native.Nat.{ℕ, ◌≤◌}
+-- The opening of a sound plan is where a run of records starts. Assumes a sound plan.
+use Prim.Native.Nat.{ℕ, zero, suc, ◌≤◌}
 use mathlib.Core.Path.{◌≡◌, refl, sym, ◌∙◌, ap, subst}
-use mathlib.Core.List.{List, []}
+use mathlib.Core.Bool.{false}
+use mathlib.Core.List.{List}
 use native.Mathlib.Omega.{arith}
-use lib.IntN.{ℤ}
-use lib.ListN.{length, take, replicate, length-replicate}
+use Rattle.std.specs.Prelude.{None}
+use lib.ListN.{length, get_or, replicate, length-replicate}
 use Rattle.spec_format.specs.declared.Entry.{Entry}
+use Rattle.spec_format.specs.Plan.{Plan}
 use Rattle.spec_format.specs.Sound.{Sound}
-use Rattle.read_tables.specs.PlanTable.{plan_in}
-use Rattle.spec_machine.specs.declared.Cells.{Cells}
-use Rattle.spec_machine.specs.Machine.{Machine, opening_of}
+use Rattle.spec_machine.specs.Machine.{Machine}
 use Rattle.spec_machine.specs.History.{begun, run_of}
-use Rattle.spec_machine.proofs.Sizes.{Sized}
-use Rattle.spec_machine.proofs.ListMachine.{sized-opening}
-use Rattle.step_cells.specs.Tables.{Tables, Whole, lent, idle, machine_of}
-use Rattle.step_cells.specs.Book.{book_of}
+use Rattle.step_cells.specs.declared.Tables.{Tables}
+use Rattle.step_cells.specs.declared.Book.{Book}
+use Rattle.step_cells.specs.Tables.{idle}
 use Rattle.run_judge.specs.WhoRuns.{WhoRuns}
-use Rattle.run_judge.specs.Rulings.{halt_of}
 use Rattle.run_judge.proofs.WhoRuns.{who-runs-opening}
-use Rattle.run_loop.specs.RunReached.{place_noted, Reached, Starts}
-use Rattle.run_opening.specs.Opened.{empty_rows, Blank, Opened}
+use Rattle.run_loop.specs.RunReached.{Starts}
+use Rattle.run_opening.specs.Opened.{Opened}
 
-module _ {t cells : List ℕ} {stat : List ℤ} {store : List ℕ} (ok : Sound (plan_in t))
-    (o : Opened t cells stat store) (all : List Entry) (few : length all ≤ 4000) (commits : List (List ℕ))
-    (all-rows : length commits ≡ 4000) where
-  -- The tables, with empty rows.
-  abbrev x : Tables
-  x = lent cells stat store empty_rows empty_rows empty_rows commits
+-- Past the end too, a list of one value has it.
+always : {A : Type 0} (n k : ℕ) (d : A) → get_or (replicate n d) k d ≡ d
+always zero k d = refl
+always (suc n) zero d = refl
+always (suc n) (suc k) d = always n k d
 
-  -- They are the machine's opening.
-  opens : machine_of x (replicate 16 idle) ≡ opening_of (plan_in t)
-  unfolding opening_of
-  opens =
-      λ i.
-      record {
-        cells = o.cells_are i;
-        jobs = o.jobs_are i;
-        store = o.store_is i;
-        addrlist = empty_rows;
-        oldlist = empty_rows;
-        newlist = empty_rows;
-      }
+module _ {plan : Plan} {x : Tables} (ok : Sound plan) (o : Opened plan x) (all : List Entry) (few : length all ≤ 4000) where
+  -- No job is active.
+  none-active : (k : ℕ) → get_or x.book.active k false ≡ false
+  none-active k = ap (λ (b : Book). get_or b.active k false) o.book_is ∙ always 16 k false
 
-  -- They are whole.
-  whole : Whole x
-  whole =
-      record {
-        cells = o.all_cells;
-        stat = ap (λ (c : Cells). length c.stat) o.cells_are ∙ sized.stat;
-        store = ap (λ (m : Machine). length m.store) opens ∙ sized.store;
-        commits = all-rows;
-      }
-    where
-      sized : Sized (opening_of (plan_in t))
-      sized = sized-opening (plan_in t) ok
-
-  -- No record has run.
-  reached : Reached t all [] (replicate 16 idle) x
-  unfolding begun run_of
-  reached =
-      record {
-        machine_is = opens;
-        stopped_by = ap halt_of blank.halt;
-        who_runs =
-            subst (λ (m : Machine). WhoRuns t m (book_of x)) (sym opens)
-            (who-runs-opening t (book_of x) blank.active blank.running);
-        counted = blank.entries;
-        few_done = omega (arith, blank.entries);
-        few_rows = omega (arith, blank.committed);
-        rows_are = ap (λ (n : ℕ). take n commits) blank.committed;
-        other_is = ap place_noted blank.other;
-        whole = whole;
-        all_registers = length-replicate 16 idle;
-      }
-    where
-      blank : Blank t (book_of x)
-      blank = o.book x refl
+  -- None runs on any card.
+  none-runs : (r : ℕ) → get_or x.book.running r None ≡ None
+  none-runs r = ap (λ (b : Book). get_or b.running r None) o.book_is ∙ always 8 r None
 
   -- The records can start.
-  pub opened-starts : Starts t all x
-  opened-starts = record { sound = ok; few = few; reached = reached }
+  pub opened-starts : Starts plan all x
+  unfolding begun run_of
+  opened-starts =
+      record {
+        sound = ok;
+        few = few;
+        reached =
+            record {
+              machine_is = o.machine_is;
+              stopped_by = ap (λ (b : Book). b.halt) o.book_is;
+              who_runs =
+                  subst (λ (m : Machine). WhoRuns plan m x.book) (sym o.machine_is)
+                  (who-runs-opening plan x.book none-active (λ r h. none-runs r));
+              counted = ap (λ (b : Book). b.entries) o.book_is;
+              few_done = omega (arith, ap (λ (b : Book). b.entries) o.book_is);
+              few_rows = omega (arith, ap (λ (b : Book). length b.commits.items) o.book_is);
+              rows_are = ap (λ (b : Book). b.commits.items) o.book_is;
+              other_is = ap (λ (b : Book). b.other) o.book_is;
+              whole = o.whole;
+              all_registers = length-replicate 16 idle;
+            };
+      }

@@ -1,5 +1,3 @@
--- The laws that the proofs of this crate cite.
-pub mod FilledList
-pub mod OpeningStore
-pub mod OpenedParts
-pub mod OpeningTables
+-- A list that has been filled place by place, and tables filled as at the opening.
+pub mod Filled
+pub mod OpenedTables

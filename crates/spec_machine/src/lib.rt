@@ -5,7 +5,7 @@
 
 // The stage of a read or a write that a job is inside of. A read has Check, List and Take; a write has Check, List,
 // Copy and Write.
-#[derive(Clone, Copy)]
+#[derive(Clone, Copy, PartialEq, Eq)]
 pub enum Stage {
     Check,
     List,
@@ -15,7 +15,7 @@ pub enum Stage {
 }
 
 // Where a job stands in the step list: not active, before an item, or inside a move.
-#[derive(Clone, Copy)]
+#[derive(Clone, Copy, PartialEq, Eq)]
 pub enum Place {
     Idle,
     A1,
@@ -42,7 +42,7 @@ pub enum Place {
 }
 
 // A value of V: a count and a flag (cnt and needhelp of the source).
-#[derive(Clone, Copy)]
+#[derive(Clone, Copy, PartialEq, Eq)]
 pub struct Version {
     pub count: u32,
     pub flag: bool,
@@ -129,7 +129,7 @@ pub struct Out {
 }
 
 // The refusals that an entry can meet: 11 to 14 of the table, in its order.
-#[derive(Clone, Copy)]
+#[derive(Clone, Copy, PartialEq, Eq)]
 pub enum Refusal {
     NoSuch,
     Active,

@@ -1,2 +1,2 @@
--- Registers on to the next read or write.
-pub mod Onward
+-- What every stage of a move asks.
+pub mod AtMove

@@ -4,22 +4,22 @@
 ghost use Rattle.std.specs.Prelude.{◌≡◌, cond, ◌<◌, eqb, length, get_or};
 ghost use Rattle.spec_machine.specs.Memory.{sum as sum_of};
 ghost use Rattle.spec_machine.specs.Moves.{accesses as accessesOf, read, word_of, word_written as written_by};
-ghost use Rattle.spec_machine.specs.Moves.{after_list};
-ghost use Rattle.step_cells.specs.Fits.{move_for, InMove};
-ghost use Rattle.step_accesses.specs.Onward.{onward_in};
+ghost use Rattle.spec_machine.specs.Moves.{after_list, onward};
+ghost use Rattle.step_cells.specs.declared.Own.{Own};
+ghost use Rattle.step_cells.specs.Tables.{work_with};
+ghost use Rattle.step_cells.specs.Fits.{move_for, block_for, InMove};
 
-use read_tables::PLAN_PLACES;
+use read_tables::Plan;
 use spec_format::Move;
 use spec_machine::{Place, Stage};
 use step_cells::Registers;
 
 // The move that a job is at, inside an update.
-pub fn move_for(plan: &[u32; PLAN_PLACES], w: Registers) -> Move
+pub fn move_for(plan: &Plan, w: Registers) -> Move
     requires { InMove plan.now w }
     ensures { result ≡ move_for plan.now w }
 {
-    let m = 16 * w.tr as usize + w.index as usize;
-    read_tables::move_at(plan, m)
+    plan.moves(usize::from(w.tr))[usize::from(w.index)]
 }
 
 // How many reads and writes a move has.
@@ -27,20 +27,16 @@ fn accesses(m: Move) -> u8
     ensures { result ≡ length (accessesOf m) }
 {
     match m {
-        Move::Copy(_, _) => 2,
-        Move::Set(_, _) => 1,
-        Move::Add(_, _, _) => 2,
+        Move::Copy(..) | Move::Add(..) => 2,
+        Move::Set(..) => 1,
     }
 }
 
-// The first of two words for the first read or write of a move, the second for the next.
-fn word_by(access: u8, first: u32, second: u32) -> u32
+// The first value for the first read or write of a move, the second for the next.
+fn by_access<T: Copy>(access: u8, first: T, second: T) -> T
     ensures { result ≡ cond (eqb access 0) first second }
 {
-    if access == 0 {
-        return first;
-    }
-    second
+    if access == 0 { first } else { second }
 }
 
 // The word that is read or written.
@@ -49,46 +45,35 @@ pub fn word_of(m: Move, access: u8) -> u32
     ensures { result ≡ word_of (get_or (accessesOf m) access (read 0)) }
 {
     match m {
-        Move::Copy(d, a) => word_by(access, a, d),
+        Move::Copy(d, a) | Move::Add(d, a, _) => by_access(access, a, d),
         Move::Set(d, _) => d,
-        Move::Add(d, a, _) => word_by(access, a, d),
     }
 }
 
-// Take for the first read or write of a move, Copy for the next.
-fn stage_by(access: u8) -> Stage
-    ensures { result ≡ cond (eqb access 0) Stage.Take Stage.Copy }
+// The block of that word.
+pub fn block_for(plan: &Plan, m: Move, w: Registers) -> usize
+    requires { InMove plan.now w × (m ≡ move_for plan.now w) × (0 < plan.now.sizes.words) }
+    ensures { (result ≡ block_for plan.now w) × (result < 16) }
 {
-    if access == 0 {
-        return Stage::Take;
-    }
-    Stage::Copy
+    word_of(m, w.access) as usize / plan.sizes().words
 }
 
-// The stage after the list stage.
+// The stage after the list stage: Take for a read, Copy for a write.
 pub fn after_list(m: Move, access: u8) -> Stage
     requires { access < length (accessesOf m) }
     ensures { result ≡ after_list (get_or (accessesOf m) access (read 0)) }
 {
     match m {
-        Move::Copy(_, _) => stage_by(access),
-        Move::Set(_, _) => Stage::Copy,
-        Move::Add(_, _, _) => stage_by(access),
+        Move::Copy(..) | Move::Add(..) => by_access(access, Stage::Take, Stage::Copy),
+        Move::Set(..) => Stage::Copy,
     }
 }
-
-// The largest word.
-const LARGEST: u64 = 4294967295;
 
 // "Add gives 4,294,967,295 where the sum would be more": the sum.
 fn sum(word: u32, k: u32) -> u32
     ensures { result ≡ sum_of word k }
 {
-    let mut total = word as u64 + k as u64;
-    if total > LARGEST {
-        total = LARGEST;
-    }
-    total as u32
+    word.saturating_add(k)
 }
 
 // What a move writes, from the word that its read took.
@@ -96,7 +81,7 @@ pub fn word_written(m: Move, word: u32) -> u32
     ensures { result ≡ written_by m word }
 {
     match m {
-        Move::Copy(_, _) => word,
+        Move::Copy(..) => word,
         Move::Set(_, k) => k,
         Move::Add(_, _, k) => sum(word, k),
     }
@@ -104,19 +89,25 @@ pub fn word_written(m: Move, word: u32) -> u32
 
 // After a read or write: to the next one of the move, else to the next move, else to H22. The move m is the one that
 // the job is at.
-pub fn onward(plan: &[u32; PLAN_PLACES], m: Move, w: Registers) -> Registers
+pub fn onward(plan: &Plan, m: Move, w: Registers) -> Registers
     requires { InMove plan.now w × (m ≡ move_for plan.now w) }
-    ensures { result ≡ onward_in plan.now w }
+    ensures { (o : Own) → work_with o result ≡ onward plan.now (work_with o w) }
 {
-    let mut next = w;
-    if w.access + 1 < accesses(m) {
-        next.access = w.access + 1;
-        return step_shared::go_to(next, Place::Move(Stage::Check));
+    let check = Place::Move(Stage::Check);
+    let access = w.access + 1;
+    if access < accesses(m) {
+        return Registers {
+            place: check,
+            access,
+            ..w
+        };
     }
-    next.index = w.index + 1;
-    next.access = 0;
-    if (w.index as u32) + 1 < read_tables::count(plan, w.tr as usize) {
-        return step_shared::go_to(next, Place::Move(Stage::Check));
+    let index = w.index + 1;
+    let more = usize::from(index) < plan.moves(usize::from(w.tr)).len();
+    Registers {
+        place: if more { check } else { Place::H22 },
+        index,
+        access: 0,
+        ..w
     }
-    step_shared::go_to(next, Place::H22)
 }

@@ -1,103 +1,79 @@
 // The items A7 to A12 of the step list, in which a job looks at V and moves it on. Each function is the item of its
 // label.
-#![tactic(auto)]
+#![tactic(auto, unfolding(step_cells::specs::Effects::Does, spec_machine::specs::Steps::item))]
 
-ghost use Rattle.std.specs.Prelude.{◌≡◌, not, ◌&&◌, ◌||◌, List, ℕ, ◌≤◌, ◌<◌, ◌%◌, eqb, ℤ, pos, length, get_or};
-ghost use Rattle.read_tables.specs.PlanTable.{sizes_in};
+ghost use Rattle.std.specs.Prelude.{◌≡◌, not, ◌&&◌, ◌||◌, ℕ, ◌≤◌, ◌<◌, ◌%◌, eqb, ℤ, pos, get_or};
+ghost use Rattle.spec_format.specs.Plan.{Plan, job_in};
 ghost use Rattle.spec_machine.specs.Status.{same_status};
-ghost use Rattle.step_cells.specs.Tables.{Tables};
 ghost use Rattle.step_cells.specs.Effects.{Does, StaysInside};
 ghost use Rattle.step_cells.specs.Fits.{PlanFits, CellsFit, RegistersFit};
 
-use read_tables::PLAN_PLACES;
+use read_tables::Plan;
 use spec_machine::{Place, Version};
-use step_cells::{CELL_PLACES, Change, Effect, Registers};
+use step_cells::{Change, Effect, Registers, Tables};
 
-// Whether ver points elsewhere or its flag is false.
-fn is_elsewhere(cards: u32, v: Version, card: u32) -> bool
-    requires { 0 < cards }
-    ensures { result ≡ (not (eqb (v.count % cards) card) || not v.flag) }
+// Whether V points elsewhere than at job p's card, or its flag is false.
+fn is_elsewhere(plan: &Plan, v: Version, p: usize) -> bool
+    requires { PlanFits plan.now p }
+    ensures { result ≡ (not (eqb (v.count % plan.now.sizes.cards) (job_in plan.now p).card) || not v.flag) }
 {
-    if v.count % cards == card {
-        return !v.flag;
-    }
-    true
+    v.count as usize % plan.sizes().cards != plan.jobs()[p].card || !v.flag
 }
 
 // A7 (7 and 8 together): ver := V. If Stat[lid] = N and (ver points elsewhere or its flag is false), A14. Else with
 // flag true H16, with false A10.
-pub fn a7(
-    plan: &[u32; PLAN_PLACES],
-    cells: &[u32; CELL_PLACES],
-    stat: &[i32; 17],
-    p: usize,
-    w: Registers,
-) -> Effect
-    requires { PlanFits plan.now p × (RegistersFit w × (length stat.now ≡ 17)) }
-    ensures does { (x : Tables) → x.cells ≡ cells.now → x.stat ≡ stat.now
-        → Does Place.A7 plan.now x p w result }
+pub fn a7(plan: &Plan, tables: &Tables, p: usize, w: Registers) -> Effect
+    requires { PlanFits plan.now p × RegistersFit w }
+    ensures does { Does Place.A7 plan.now tables.now p w result }
     ensures stays_inside { StaysInside result }
 {
-    let v = step_cells::version(cells);
-    let mut next = w;
-    next.ver = v;
-    if step_shared::is_finished(plan, stat, w.lid) {
-        if is_elsewhere(read_tables::cards(plan), v, read_tables::card(plan, p)) {
-            return step_shared::quiet(step_shared::go_to(next, Place::A14));
-        }
-    }
-    if v.flag {
-        return step_shared::quiet(step_shared::go_to(next, Place::H16));
-    }
-    step_shared::quiet(step_shared::go_to(next, Place::A10))
+    let ver = tables.v;
+    let place = if step_shared::is_finished(plan, tables, w.lid) && is_elsewhere(plan, ver, p) {
+        Place::A14
+    } else if ver.flag {
+        Place::H16
+    } else {
+        Place::A10
+    };
+    step_shared::quiet(Registers { place, ver, ..w })
 }
 
 // Neither k nor Stat[k] is N.
-fn is_pending(plan: &[u32; PLAN_PLACES], stat: &[i32; 17], k: u8) -> bool
-    requires { ((sizes_in plan.now).jobs ≤ 16) × ((k ≤ 16) × (length stat.now ≡ 17)) }
-    ensures { (none : ℤ) → result ≡ (not (eqb k (sizes_in plan.now).jobs)
-        && not (same_status (get_or stat.now k none) (pos (sizes_in plan.now).jobs))) }
+fn is_pending(plan: &Plan, tables: &Tables, k: u8) -> bool
+    requires { (plan.now.sizes.jobs ≤ 16) × (k ≤ 16) }
+    ensures { (none : ℤ) → result ≡ (not (eqb k plan.now.sizes.jobs)
+        && not (same_status (get_or tables.now.stat k none) (pos plan.now.sizes.jobs))) }
 {
-    if k as u32 == read_tables::jobs(plan) {
-        return false;
-    }
-    !step_shared::is_finished(plan, stat, k)
+    usize::from(k) != plan.sizes().jobs && !step_shared::is_finished(plan, tables, k)
 }
 
 // A10 (10 and 11 together): hid := Ann[(count + 1) mod P]; new flag true exactly if hid and Stat[hid] are not N.
-pub fn a10(
-    plan: &[u32; PLAN_PLACES],
-    cells: &[u32; CELL_PLACES],
-    stat: &[i32; 17],
-    p: usize,
-    w: Registers,
-) -> Effect
-    requires { PlanFits plan.now p × (CellsFit cells.now p × (RegistersFit w × (length stat.now ≡ 17))) }
-    ensures does { (x : Tables) → x.cells ≡ cells.now → x.stat ≡ stat.now
-        → Does Place.A10 plan.now x p w result }
+pub fn a10(plan: &Plan, tables: &Tables, p: usize, w: Registers) -> Effect
+    requires { PlanFits plan.now p × (CellsFit tables.now p × RegistersFit w) }
+    ensures does { Does Place.A10 plan.now tables.now p w result }
     ensures stays_inside { StaysInside result }
 {
-    let ver = w.ver;
-    let hid = step_cells::ann(cells, (ver.count + 1) % read_tables::cards(plan)) as u8;
-    let mut next = w;
-    next.hid = hid;
-    next.next = is_pending(plan, stat, hid);
-    step_shared::quiet(step_shared::go_to(next, Place::A12))
+    let card = (w.ver.count as usize + 1) % plan.sizes().cards;
+    let hid = step_shared::announced(&tables.ann, card) as u8;
+    let next = is_pending(plan, tables, hid);
+    step_shared::quiet(Registers {
+        place: Place::A12,
+        hid,
+        next,
+        ..w
+    })
 }
 
 // A12: if V = ver, V becomes (count + 1, new flag). To A7.
-pub fn a12(cells: &[u32; CELL_PLACES], w: Registers) -> Effect
+pub fn a12(tables: &Tables, w: Registers) -> Effect
     requires { RegistersFit w }
-    ensures by_index { (t : List ℕ) (x : Tables) (p : ℕ) → x.cells ≡ cells.now
-        → Does Place.A12 t x p w result }
+    ensures does { (plan : Plan) (p : ℕ) → Does Place.A12 plan tables.now p w result }
     ensures stays_inside { StaysInside result }
 {
-    let ver = w.ver;
-    if step_shared::same_version(cells, w) {
-        return step_shared::storing(
-            Change::Version(ver.count + 1, w.next),
-            step_shared::go_to(w, Place::A7),
-        );
+    let next = step_shared::go_to(w, Place::A7);
+    if step_shared::same_version(tables, w) {
+        step_shared::storing(Change::Version(w.ver.count + 1, w.next), next)
+    } else {
+        step_shared::quiet(next)
     }
-    step_shared::quiet(step_shared::go_to(w, Place::A7))
 }

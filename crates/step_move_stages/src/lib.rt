@@ -1,98 +1,91 @@
 // The stages of a move that check, list and take, and one stage by its name. A read has check, list and take; a write
 // has check, list, copy and write. Each function is the stage of its name.
-#![tactic(auto)]
+#![tactic(auto, unfolding(step_cells::specs::Effects::Does, spec_machine::specs::Steps::item, spec_machine::specs::Steps::stage,))]
 
-ghost use Rattle.std.specs.Prelude.{◌≡◌, List, ℕ, length};
-ghost use Rattle.step_cells.specs.Tables.{Tables};
+ghost use Rattle.std.specs.Prelude.{◌≡◌, ℕ, ◌+◌, ◌*◌, ◌≤◌, ◌<◌};
+ghost use Rattle.spec_format.specs.Plan.{Plan};
+ghost use Rattle.spec_machine.specs.Ranges.{most_numbers};
 ghost use Rattle.step_cells.specs.Effects.{Does, StaysInside};
-ghost use Rattle.step_cells.specs.Fits.{PlanFits, CellsFit, RegistersFit, InMove, RoomToList, RoomAt};
+ghost use Rattle.step_cells.specs.Fits.{RegistersFit, RoomToList, RoomAt};
+ghost use Rattle.step_accesses.specs.AtMove.{AtMove};
 
-use read_tables::PLAN_PLACES;
+use read_tables::Plan;
 use spec_machine::{Place, Stage};
-use step_cells::{CELL_PLACES, Change, Effect, Registers};
+use step_cells::{Change, Effect, Registers, Tables};
 
 // Check: if V differs from ver or Stat[hid] is not −1, clear the marks, go to H32.
-fn check(cells: &[u32; CELL_PLACES], stat: &[i32; 17], w: Registers) -> Effect
-    requires { RegistersFit w × (length stat.now ≡ 17) }
-    ensures by_index { (t : List ℕ) (x : Tables) (p : ℕ) → x.cells ≡ cells.now → x.stat ≡ stat.now
-        → Does (Place.Move Stage.Check) t x p w result }
+fn check(tables: &Tables, w: Registers) -> Effect
+    requires { RegistersFit w }
+    ensures does { (plan : Plan) (p : ℕ) → Does (Place.Move Stage.Check) plan tables.now p w result }
     ensures stays_inside { StaysInside result }
 {
-    if step_shared::may_decide(cells, stat, w) {
-        return step_shared::quiet(step_shared::go_to(w, Place::Move(Stage::List)));
+    if step_shared::may_decide(tables, w) {
+        step_shared::quiet(step_shared::go_to(w, Place::Move(Stage::List)))
+    } else {
+        step_shared::storing(Change::Cleared, step_shared::go_to(w, Place::H32))
     }
-    step_shared::storing(Change::Cleared, step_shared::go_to(w, Place::H32))
 }
 
 // List the block with its bank number if not yet listed (else the step changes nothing).
-fn list(plan: &[u32; PLAN_PLACES], cells: &[u32; CELL_PLACES], p: usize, w: Registers) -> Effect
-    requires plan_fits { PlanFits plan.now p × (CellsFit cells.now p × (RegistersFit w × InMove plan.now w)) }
-    requires room_to_list { RoomToList plan.now cells.now p w }
-    ensures does { (x : Tables) → x.cells ≡ cells.now
-        → Does (Place.Move Stage.List) plan.now x p w result }
+fn list(plan: &Plan, tables: &Tables, p: usize, w: Registers) -> Effect
+    requires at_move { AtMove plan.now tables.now p w }
+    requires room_to_list { RoomToList plan.now tables.now p w }
+    ensures does { Does (Place.Move Stage.List) plan.now tables.now p w result }
     ensures stays_inside { StaysInside result }
 {
     let m = step_accesses::move_for(plan, w);
-    let block = step_accesses::word_of(m, w.access) / read_tables::words(plan);
-    let after = step_accesses::after_list(m, w.access);
-    if step_cells::dirty(cells, p, block) == 0 {
-        let number = step_cells::bank(cells, block);
-        let mut next = w;
-        next.numblks = w.numblks + 1;
-        return step_shared::storing(
-            Change::Listed(w.numblks as u32, block, number),
-            step_shared::go_to(next, Place::Move(after)),
-        );
+    let block = step_accesses::block_for(plan, m, w);
+    let place = Place::Move(step_accesses::after_list(m, w.access));
+    if step_shared::own_of(&tables.own, p).dirty[block] != 0 {
+        return step_shared::quiet(step_shared::go_to(w, place));
     }
-    step_shared::quiet(step_shared::go_to(w, Place::Move(after)))
+    let listed = Change::Listed(u32::from(w.numblks), block as u32, tables.bank[block]);
+    let numblks = w.numblks + 1;
+    step_shared::storing(
+        listed,
+        Registers {
+            place,
+            numblks,
+            ..w
+        },
+    )
+}
+
+// Where a word of a block stands in the store: blocks of so many words stand there by their numbers.
+fn place_in_store(number: u32, words: usize, place: usize) -> usize
+    requires { (number < most_numbers) × ((words ≤ 16) × (place < 16)) }
+    ensures { (result ≡ number * words + place) × (result < 2304) }
+{
+    number as usize * words + place
 }
 
 // Take the word, from the block's copy once this run has made one.
-fn take(
-    plan: &[u32; PLAN_PLACES],
-    cells: &[u32; CELL_PLACES],
-    store: &[u32],
-    p: usize,
-    w: Registers,
-) -> Effect
-    requires plan_fits { PlanFits plan.now p × (CellsFit cells.now p × (RegistersFit w × InMove plan.now w)) }
-    requires store_len { length store.now ≡ 2304 }
-    ensures does { (x : Tables) → x.cells ≡ cells.now → x.store ≡ store.now
-        → Does (Place.Move Stage.Take) plan.now x p w result }
+fn take(plan: &Plan, tables: &Tables, p: usize, w: Registers) -> Effect
+    requires { AtMove plan.now tables.now p w }
+    ensures does { Does (Place.Move Stage.Take) plan.now tables.now p w result }
     ensures stays_inside { StaysInside result }
 {
     let m = step_accesses::move_for(plan, w);
-    let word = step_accesses::word_of(m, w.access);
-    let words = read_tables::words(plan);
-    let number = step_cells::curr(cells, p, word / words); // its copy's, once there is one
-    let at = (number * words + word % words) as usize;
-    let mut next = w;
-    next.word = store[at];
+    let word = step_accesses::word_of(m, w.access) as usize;
+    let words = plan.sizes().words;
+    let number = step_shared::own_of(&tables.own, p).curr[word / words]; // its copy's, once there is one
+    let mut next = w; // changed in place: of a struct update that goes to a call the proof did not close
+    next.word = tables.store[place_in_store(number, words, word % words)];
     step_shared::quiet(step_accesses::onward(plan, m, next))
 }
 
 // One stage of the move that a job is at, by its name.
-pub fn stage(
-    st: Stage,
-    plan: &[u32; PLAN_PLACES],
-    cells: &[u32; CELL_PLACES],
-    stat: &[i32; 17],
-    store: &[u32],
-    p: usize,
-    w: Registers,
-) -> Effect
-    requires plan_fits { PlanFits plan.now p × (CellsFit cells.now p × (RegistersFit w × InMove plan.now w)) }
-    requires stat_len { (length stat.now ≡ 17) × (length store.now ≡ 2304) }
-    requires room_at { RoomAt st plan.now cells.now p w }
-    ensures does { (x : Tables) → x.cells ≡ cells.now → x.stat ≡ stat.now
-        → x.store ≡ store.now → Does (Place.Move st) plan.now x p w result }
+pub fn stage(st: Stage, plan: &Plan, tables: &Tables, p: usize, w: Registers) -> Effect
+    requires at_move { AtMove plan.now tables.now p w }
+    requires room_at { RoomAt st plan.now tables.now p w }
+    ensures does { Does (Place.Move st) plan.now tables.now p w result }
     ensures stays_inside { StaysInside result }
 {
     match st {
-        Stage::Check => check(cells, stat, w),
-        Stage::List => list(plan, cells, p, w),
-        Stage::Copy => step_move_writes::copy(plan, cells, p, w),
-        Stage::Take => take(plan, cells, store, p, w),
-        Stage::Write => step_move_writes::write(plan, cells, p, w),
+        Stage::Check => check(tables, w),
+        Stage::List => list(plan, tables, p, w),
+        Stage::Copy => step_move_writes::copy(plan, tables, p, w),
+        Stage::Take => take(plan, tables, p, w),
+        Stage::Write => step_move_writes::write(plan, tables, p, w),
     }
 }

@@ -1,56 +1,54 @@
 // The stages of a move that copy a block and write a word. Each function is the stage of its name.
-#![tactic(auto)]
+#![tactic(auto, unfolding(step_cells::specs::Effects::Does, spec_machine::specs::Steps::item, spec_machine::specs::Steps::stage,))]
 
-ghost use Rattle.std.specs.Prelude.{◌≡◌};
-ghost use Rattle.step_cells.specs.Tables.{Tables};
 ghost use Rattle.step_cells.specs.Effects.{Does, StaysInside};
-ghost use Rattle.step_cells.specs.Fits.{PlanFits, CellsFit, RegistersFit, InMove, RoomToCopy};
+ghost use Rattle.step_cells.specs.Fits.{RoomToCopy};
+ghost use Rattle.step_accesses.specs.AtMove.{AtMove};
 
-use read_tables::PLAN_PLACES;
+use read_tables::Plan;
 use spec_machine::{Place, Stage};
-use step_cells::{CELL_PLACES, Change, Effect, Registers};
+use step_cells::{Change, Effect, Registers, Tables};
 
 // On the block's first write copy it into p's next copy block (else nothing).
-pub fn copy(plan: &[u32; PLAN_PLACES], cells: &[u32; CELL_PLACES], p: usize, w: Registers) -> Effect
-    requires plan_fits { PlanFits plan.now p × (CellsFit cells.now p × (RegistersFit w × InMove plan.now w)) }
-    requires room_to_copy { RoomToCopy plan.now cells.now p w }
-    ensures does { (x : Tables) → x.cells ≡ cells.now
-        → Does (Place.Move Stage.Copy) plan.now x p w result }
+pub fn copy(plan: &Plan, tables: &Tables, p: usize, w: Registers) -> Effect
+    requires at_move { AtMove plan.now tables.now p w }
+    requires room_to_copy { RoomToCopy plan.now tables.now p w }
+    ensures does { Does (Place.Move Stage.Copy) plan.now tables.now p w result }
     ensures stays_inside { StaysInside result }
 {
+    let place = Place::Move(Stage::Write);
     let m = step_accesses::move_for(plan, w);
-    let block = step_accesses::word_of(m, w.access) / read_tables::words(plan);
-    if step_cells::dirty(cells, p, block) == 2 {
-        return step_shared::quiet(step_shared::go_to(w, Place::Move(Stage::Write)));
+    let block = step_accesses::block_for(plan, m, w);
+    let own = step_shared::own_of(&tables.own, p);
+    if own.dirty[block] == 2 {
+        return step_shared::quiet(step_shared::go_to(w, place));
     }
-    let from = step_cells::curr(cells, p, block);
-    let to = step_cells::copy(cells, p, w.dirtycnt as u32);
-    let mut next = w;
-    next.dirtycnt = w.dirtycnt + 1;
+    let from = own.curr[block];
+    let to = own.copy[usize::from(w.dirtycnt)];
+    let dirtycnt = w.dirtycnt + 1;
     step_shared::storing(
-        Change::Block(block, from, to),
-        step_shared::go_to(next, Place::Move(Stage::Write)),
+        Change::Block(block as u32, from, to),
+        Registers {
+            place,
+            dirtycnt,
+            ..w
+        },
     )
 }
 
 // Write the word in that copy.
-pub fn write(
-    plan: &[u32; PLAN_PLACES],
-    cells: &[u32; CELL_PLACES],
-    p: usize,
-    w: Registers,
-) -> Effect
-    requires { PlanFits plan.now p × (CellsFit cells.now p × (RegistersFit w × InMove plan.now w)) }
-    ensures does { (x : Tables) → x.cells ≡ cells.now
-        → Does (Place.Move Stage.Write) plan.now x p w result }
+pub fn write(plan: &Plan, tables: &Tables, p: usize, w: Registers) -> Effect
+    requires { AtMove plan.now tables.now p w }
+    ensures does { Does (Place.Move Stage.Write) plan.now tables.now p w result }
     ensures stays_inside { StaysInside result }
 {
     let m = step_accesses::move_for(plan, w);
-    let word = step_accesses::word_of(m, w.access);
-    let words = read_tables::words(plan);
-    let number = step_cells::curr(cells, p, word / words);
+    let word = step_accesses::word_of(m, w.access) as usize;
+    let words = plan.sizes().words;
+    let number = step_shared::own_of(&tables.own, p).curr[word / words];
+    let written = step_accesses::word_written(m, w.word);
     step_shared::storing(
-        Change::Word(number, word % words, step_accesses::word_written(m, w.word)),
+        Change::Word(number, (word % words) as u32, written),
         step_accesses::onward(plan, m, w),
     )
 }

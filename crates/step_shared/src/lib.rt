@@ -2,72 +2,73 @@
 // and on to another place, and the effects that items give.
 #![tactic(auto)]
 
-ghost use Rattle.std.specs.Prelude.{◌≡◌, ◌&&◌, ◌≤◌, ℤ, pos, length, get_or};
-ghost use Rattle.read_tables.specs.PlanTable.{sizes_in};
+ghost use Rattle.std.specs.Prelude.{◌≡◌, ◌&&◌, ℕ, ◌≤◌, ◌<◌, ℤ, pos, get_or};
 ghost use Rattle.spec_machine.specs.Status.{same_status, undecided};
 ghost use Rattle.spec_machine.specs.Steps.{same_version};
-ghost use Rattle.step_cells.specs.CellTable.{version_in};
-ghost use Rattle.step_cells.specs.Tables.{idle as atOpening};
+ghost use Rattle.step_cells.specs.Tables.{no_own, idle as atOpening};
 ghost use Rattle.step_shared.specs.Registers.{goto, quiet as quietly, storing as storingOne};
 ghost use Rattle.step_shared.specs.Registers.{doing as doingOne};
 
-use read_tables::PLAN_PLACES;
+use read_tables::Plan;
 use spec_machine::{Place, Version};
-use step_cells::{CELL_PLACES, Change, Effect, Registers};
-
-// V = ver: the count and the flag are the same.
-fn is_same(v: Version, ver: Version) -> bool
-    ensures { result ≡ same_version v ver }
-{
-    if v.count == ver.count {
-        if v.flag {
-            return ver.flag;
-        }
-        return !ver.flag;
-    }
-    false
-}
+use step_cells::{Change, Effect, Own, Registers, Tables};
 
 // V = ver, of a job's registers.
-pub fn same_version(cells: &[u32; CELL_PLACES], w: Registers) -> bool
-    ensures { result ≡ same_version (version_in cells.now) w.ver }
+#[tactic(auto, unfolding(spec_machine::specs::Steps::same_version))]
+pub fn same_version(tables: &Tables, w: Registers) -> bool
+    ensures { result ≡ same_version tables.now.v w.ver }
 {
-    let v = step_cells::version(cells);
-    let ver = w.ver;
-    is_same(v, ver)
+    tables.v == w.ver
+}
+
+// What job p keeps of its own. This, announced and status_of take an array alone: a proof then knows its length, and
+// that each of its numbers fits.
+pub fn own_of(own: &[Own; 16], p: usize) -> &Own
+    requires { p < 16 }
+    ensures { result.now ≡ get_or own.now p no_own }
+{
+    &own[p]
+}
+
+// Ann[r].
+pub fn announced(ann: &[u32; 8], r: usize) -> u32
+    requires { r < 8 }
+    ensures { (none : ℕ) → result ≡ get_or ann.now r none }
+{
+    ann[r]
+}
+
+// Stat[k].
+pub fn status_of(stat: &[i32; 17], k: u8) -> i32
+    requires { k ≤ 16 }
+    ensures { (none : ℤ) → result ≡ get_or stat.now k none }
+{
+    stat[usize::from(k)]
 }
 
 // Stat[k] = N.
-pub fn is_finished(plan: &[u32; PLAN_PLACES], stat: &[i32; 17], k: u8) -> bool
-    requires { ((sizes_in plan.now).jobs ≤ 16) × ((k ≤ 16) × (length stat.now ≡ 17)) }
-    ensures { (none : ℤ)
-        → result ≡ same_status (get_or stat.now k none) (pos (sizes_in plan.now).jobs) }
+pub fn is_finished(plan: &Plan, tables: &Tables, k: u8) -> bool
+    requires { (plan.now.sizes.jobs ≤ 16) × (k ≤ 16) }
+    ensures { (none : ℤ) → result ≡ same_status (get_or tables.now.stat k none) (pos plan.now.sizes.jobs) }
 {
-    let status = stat[k as usize];
-    let jobs = read_tables::jobs(plan);
-    status == jobs as i32
+    status_of(&tables.stat, k) == plan.sizes().jobs as i32
 }
 
 // Stat[k] = −1.
-pub fn is_undecided(stat: &[i32; 17], k: u8) -> bool
-    requires { (k ≤ 16) × (length stat.now ≡ 17) }
-    ensures { (none : ℤ) → result ≡ same_status (get_or stat.now k none) undecided }
+pub fn is_undecided(tables: &Tables, k: u8) -> bool
+    requires { k ≤ 16 }
+    ensures { (none : ℤ) → result ≡ same_status (get_or tables.now.stat k none) undecided }
 {
-    let status = stat[k as usize];
-    status == -1
+    status_of(&tables.stat, k) == -1
 }
 
 // The condition of a check and of H25: V = ver and Stat[hid] = −1.
-pub fn may_decide(cells: &[u32; CELL_PLACES], stat: &[i32; 17], w: Registers) -> bool
-    requires { (w.hid ≤ 16) × (length stat.now ≡ 17) }
+pub fn may_decide(tables: &Tables, w: Registers) -> bool
+    requires { w.hid ≤ 16 }
     ensures { (none : ℤ) → result
-        ≡ (same_version (version_in cells.now) w.ver
-        && same_status (get_or stat.now w.hid none) undecided) }
+        ≡ (same_version tables.now.v w.ver && same_status (get_or tables.now.stat w.hid none) undecided) }
 {
-    if same_version(cells, w) {
-        return is_undecided(stat, w.hid);
-    }
-    false
+    same_version(tables, w) && is_undecided(tables, w.hid)
 }
 
 // A job's registers at the opening.
@@ -102,26 +103,7 @@ pub fn idle() -> Registers
 pub fn go_to(w: Registers, place: Place) -> Registers
     ensures { result ≡ goto place w }
 {
-    let ver = w.ver;
-    Registers {
-        place,
-        round: w.round,
-        lid: w.lid,
-        hid: w.hid,
-        wid: w.wid,
-        ver,
-        next: w.next,
-        tr: w.tr,
-        index: w.index,
-        access: w.access,
-        word: w.word,
-        numblks: w.numblks,
-        dirtycnt: w.dirtycnt,
-        j: w.j,
-        addr: w.addr,
-        old: w.old,
-        new: w.new,
-    }
+    Registers { place, ..w }
 }
 
 // An item that changes no table.

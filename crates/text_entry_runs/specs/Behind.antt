@@ -1,9 +1,7 @@
--- Entry lines with one more single entry at their end, and what putting it there leaves in a table of notes.
--- Assumes nothing.
-use Rattle.std.specs.Prelude.{ℕ, suc, ◌≤◌, ◌≡◌, cond, List, [], ◌∷◌, eqb, length}
+-- Entry lines with one more single entry at their end. Assumes nothing.
+use Rattle.std.specs.Prelude.{ℕ, suc, ◌≤◌, cond, List, [], ◌∷◌, eqb}
 use Rattle.spec_format.specs.declared.Entry.{Entry}
 use Rattle.spec_plan_text.specs.EntryLines.{EntryLine, call, run}
-use Rattle.text_entry_runs.specs.Joined.{lines_noted}
 
 -- The entry line of a single entry by itself. Kind 0 is a call; of a step the second number is unused.
 abbrev pub line_alone : Entry → EntryLine
@@ -29,8 +27,3 @@ abbrev pub StepsAtMost : ℕ → List EntryLine → Type 0
 StepsAtMost most [] = Unit {0}
 StepsAtMost most (call job update ∷ ls) = StepsAtMost most ls
 StepsAtMost most (run card n ∷ ls) = (n ≤ most) × StepsAtMost most ls
-
--- A single entry was put behind the entry lines of the first m notes of t: now they are those of the first r of u.
-pub record Added (e : Entry) (m : ℕ) (t : List ℕ) (r : ℕ) (u : List ℕ) : Type 0 where
-  pub long : length u ≡ length t
-  pub lines_are : lines_noted r u ≡ add_last e (lines_noted m t)

@@ -1,21 +1,23 @@
--- The entry lines that a table of notes holds. Assumes nothing.
-use Rattle.std.specs.Prelude.{ℕ, ◌≤◌, ◌≡◌, cond, List, eqb, length}
+-- The entry lines that notes stand for. Assumes nothing.
+use Rattle.std.specs.Prelude.{◌≤◌, ◌≡◌, Bool, cond, not, ◌&&◌, List, eqb, length, map}
 use Rattle.spec_format.specs.declared.Entry.{Entry}
-use Rattle.spec_format.specs.Plan.{tabulate}
 use Rattle.spec_plan_text.specs.EntryLines.{EntryLine, call, run, longest_runs}
-use Rattle.read_tables.specs.NoteTable.{note_places, Note, note_at}
+use Rattle.read_tables.specs.declared.Note.{Note}
 
 -- The entry line of a note: a call, or a run of as many steps as times are noted.
 abbrev pub line_noted : Note → EntryLine
 line_noted n =
     cond (eqb n.entry.kind 0) (call n.entry.first n.entry.second) (run n.entry.first n.times)
 
--- The entry lines of the first n notes.
-abbrev pub lines_noted : ℕ → List ℕ → List EntryLine
-lines_noted n t = tabulate n (λ i. line_noted (note_at t i))
+-- The entry lines of notes.
+abbrev pub lines_noted : List Note → List EntryLine
+lines_noted notes = map line_noted notes
 
--- The first n notes are the entry lines of some single entries.
-pub record Joined (es : List Entry) (n : ℕ) (t : List ℕ) : Type 0 where
-  pub few : n ≤ length es
-  pub whole : length t ≡ note_places
-  pub lines_are : lines_noted n t ≡ longest_runs es
+-- An entry makes the run of a note one longer: both are steps of one card.
+abbrev pub goes_on : Note → Entry → Bool
+goes_on n e = not (eqb e.kind 0) && (not (eqb n.entry.kind 0) && eqb n.entry.first e.first)
+
+-- Notes are the entry lines of some single entries.
+pub record Joined (es : List Entry) (notes : List Note) : Type 0 where
+  pub few : length notes ≤ length es
+  pub lines_are : lines_noted notes ≡ longest_runs es

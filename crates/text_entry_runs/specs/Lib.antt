@@ -1,3 +1,3 @@
--- The entry lines that a table of notes holds, and one more single entry at their end.
+-- The entry lines that notes stand for, and one more single entry at their end.
 pub mod Joined
 pub mod Behind

@@ -1,60 +1,59 @@
 // The single entries of a schedule joined into entry lines: "steps of one card that follow each other are joined into
-// the longest runs". The lines stand in a table of notes, as the entry lines of a text do.
+// the longest runs". The lines are notes, as those on the entry lines of a text.
 #![tactic(auto)]
 
-ghost use Rattle.std.specs.Prelude.{◌≤◌, ◌<◌, length, take, ◌≡◌};
-ghost use Rattle.read_tables.specs.NoteTable.{note_places, listed_in};
+ghost use Rattle.std.specs.Prelude.{◌≡◌, ◌≤◌, ◌<◌, length};
 ghost use Rattle.spec_format.specs.Plan.{entries_in};
-ghost use Rattle.read_single_entries.specs.Holding.{Holding};
-ghost use Rattle.text_entry_runs.specs.Joined.{lines_noted, Joined};
-ghost use Rattle.text_entry_runs.specs.Behind.{StepsAtMost, Added};
+ghost use Rattle.read_tables.specs.Notes.{listed_in};
+ghost use Rattle.text_entry_runs.specs.Joined.{lines_noted, goes_on, Joined};
+ghost use Rattle.text_entry_runs.specs.Behind.{add_last, StepsAtMost};
 
-use read_tables::NOTE_PLACES;
+use read_tables::{Note, Notes};
 use spec_format::Entry;
 
-// A single entry behind the entry lines of m notes: a step makes a run of its card one longer, where that is the last
-// line, and every other entry is a line by itself. Answers how many lines there are.
-fn add(notes: &mut [u32; NOTE_PLACES], m: usize, e: Entry) -> usize
-    requires m_bound { (m < 4000) × (length notes.old ≡ note_places) }
-    requires steps_at_most { StepsAtMost 4000 (lines_noted m notes.old) }
-    ensures { Added e m notes.old result notes.new }
+// Whether an entry makes the run of a note one longer: both are steps of one card.
+fn goes_on(note: Note, e: Entry) -> bool
+    ensures { result ≡ goes_on note e }
 {
-    if e.kind > 0 {
-        if m > 0 {
-            let last = m - 1;
-            let before = read_tables::entry_at(notes, last);
-            if before.kind > 0 {
-                if before.first == e.first {
-                    let times = read_tables::count_at(notes, last);
-                    read_tables::note(notes, last, e, times + 1, 0);
-                    return m;
-                }
-            }
-        }
-    }
-    read_tables::note(notes, m, e, 1, 0);
-    m + 1
+    e.kind > 0 && note.entry.kind > 0 && note.entry.first == e.first
 }
 
-// The first n records of an array, joined into entry lines. Answers how many lines there are.
-fn join(records: [Entry; 4000], n: usize, notes: &mut [u32; NOTE_PLACES]) -> usize
-    requires { (n ≤ 4000) × (length notes.old ≡ note_places) }
-    ensures { Joined (take n records) result notes.new }
+// A single entry behind the entry lines of notes: a step makes a run of its card one longer, where that is the last
+// line, and every other entry is a line by itself.
+fn add(notes: &mut Notes, e: Entry)
+    requires room { length notes.old.items < 4000 }
+    requires steps_at_most { StepsAtMost 4000 (lines_noted notes.old.items) }
+    ensures { lines_noted notes.new.items ≡ add_last e (lines_noted notes.old.items) }
 {
-    let mut m = 0;
-    let mut i = 0;
-    while i < n {
-        m = add(notes, m, records[i]);
-        i += 1;
+    if let Some(last) = notes.len().checked_sub(1)
+        && goes_on(notes[last], e)
+    {
+        notes[last].times += 1;
+        return;
     }
-    m
+    notes.push(Note {
+        entry: e,
+        times: 1,
+        line: 0,
+    });
 }
 
-// The single entries of the first `noted` notes, which hold so many, joined into entry lines, which then stand in the
-// table instead. Answers how many lines there are.
-pub fn join_notes(notes: &mut [u32; NOTE_PLACES], noted: usize, count: usize) -> usize
-    requires { Holding noted notes.old count × (length notes.old ≡ note_places) }
-    ensures { Joined (entries_in (listed_in noted notes.old)) result notes.new }
+// The entry lines of records, in place of what was noted.
+fn join(records: &[Entry], notes: &mut Notes)
+    requires { length records.now ≤ 4000 }
+    ensures { Joined records.now notes.new.items }
 {
-    join(read_single_entries::records_of(notes, noted), count, notes)
+    notes.clear();
+    for &e in records {
+        add(notes, e);
+    }
+}
+
+// The single entries of the notes joined into entry lines, which are then noted instead.
+pub fn join_notes(notes: &mut Notes)
+    requires { length (listed_in notes.old.items) ≤ 4000 }
+    ensures { Joined (entries_in (listed_in notes.old.items)) notes.new.items }
+{
+    let records = read_single_entries::records_of(notes);
+    join(records.as_slice(), notes);
 }

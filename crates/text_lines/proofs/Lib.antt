@@ -1,7 +1,6 @@
--- Digits and fields written from the end of a part to its start, bytes written one behind the other, and lines that a
+-- Parts written from the end to the start, the fields of numbers, bytes written one behind the other, and lines that a
 -- number counts.
-pub mod Stores
-pub mod DigitsBefore
-pub mod FieldsBefore
+pub mod Backwards
+pub mod FieldsWritten
 pub mod Fills
 pub mod JoinedLines

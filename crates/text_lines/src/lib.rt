@@ -1,8 +1,8 @@
 // Numbers and lines written into a lent buffer. How long a line is comes first, by arithmetic; the line then fills
-// exactly its own part of the buffer, from its end to its start.
+// exactly its own part of the buffer, its numbers from the last to the first.
 #![tactic(auto)]
 
-ghost use Rattle.std.specs.Prelude.{◌≡◌, map, ◌++◌, ◌≤◌, ◌+◌, ◌*◌, length, take, drop};
+ghost use Rattle.std.specs.Prelude.{◌≡◌, map, ◌∷◌, ◌++◌, ◌≤◌, ◌+◌, ◌*◌, length, take};
 ghost use Rattle.spec_text.specs.Decimal.{decimal};
 ghost use Rattle.spec_text.specs.WrittenLines.{fields_behind, line_of};
 ghost use Rattle.text_lines.specs.Fills.{Fills};
@@ -11,47 +11,22 @@ ghost use Rattle.text_lines.specs.Fills.{Fills};
 pub fn width(n: u32) -> usize
     ensures { result ≡ length (decimal n) }
 {
-    if n < 10 {
-        return 1;
+    match n.checked_ilog10() {
+        Some(k) => k as usize + 1,
+        None => 1,
     }
-    if n < 100 {
-        return 2;
-    }
-    if n < 1000 {
-        return 3;
-    }
-    if n < 10000 {
-        return 4;
-    }
-    if n < 100000 {
-        return 5;
-    }
-    if n < 1000000 {
-        return 6;
-    }
-    if n < 10000000 {
-        return 7;
-    }
-    if n < 100000000 {
-        return 8;
-    }
-    if n < 1000000000 {
-        return 9;
-    }
-    10
 }
 
 // How long the fields of numbers are, each behind a tab, with the line feed.
+#[tactic(auto, using(crate::proofs::FieldsWritten::field_lengths))]
 fn fields_length(numbers: &[u32]) -> usize
     requires { length numbers.now ≤ 4096 }
     ensures value { result ≡ length (fields_behind (map decimal numbers.now)) }
     ensures upper_bound { result ≤ 11 * length numbers.now + 1 }
 {
     let mut length = 1;
-    let mut i = numbers.len();
-    while i > 0 {
-        i -= 1;
-        length += 1 + width(numbers[i]);
+    for n in numbers {
+        length += 1 + width(*n);
     }
     length
 }
@@ -65,40 +40,44 @@ pub fn line_length(first: usize, numbers: &[u32]) -> usize
     first + fields_length(numbers)
 }
 
-// The digits of a number in the places before `end`. Answers where they begin.
-fn fill_decimal(part: &mut [u8], end: usize, n: u32) -> usize
-    requires { (length (decimal n) ≤ end) × (end ≤ length part.old) }
-    ensures n_value { result + length (decimal n) ≡ end }
-    ensures part_after { part.new ≡ take result part.old ++ (decimal n ++ drop end part.old) }
+// The digits of a number at the end of a part, the last first. Answers where they begin.
+fn fill_decimal(part: &mut [u8], n: u32) -> usize
+    requires { length (decimal n) ≤ length part.old }
+    ensures place { result + length (decimal n) ≡ length part.old }
+    ensures part_after { part.new ≡ take result part.old ++ decimal n }
 {
-    let mut at = end;
     let mut rest = n;
-    while rest >= 10 {
-        at -= 1;
-        part[at] = (48 + rest % 10) as u8;
+    for at in (0..part.len()).rev() {
+        part[at] = b'0' + (rest % 10) as u8;
         rest /= 10;
+        if rest == 0 {
+            return at;
+        }
     }
-    at -= 1;
-    part[at] = (48 + rest) as u8;
+    unreachable!()
+}
+
+// A number's field, its tab and its digits, at the end of a part. Answers where it begins.
+fn fill_field(part: &mut [u8], n: u32) -> usize
+    requires { 1 + length (decimal n) ≤ length part.old }
+    ensures place { result + (1 + length (decimal n)) ≡ length part.old }
+    ensures part_after { part.new ≡ take result part.old ++ (9 ∷ decimal n) }
+{
+    let at = fill_decimal(part, n) - 1;
+    part[at] = b'\t';
     at
 }
 
-// The fields of numbers, each behind a tab, and the line feed, at the end of a part. Answers where they begin.
-fn fill_fields(part: &mut [u8], numbers: &[u32]) -> usize
-    requires { length (fields_behind (map decimal numbers.now)) ≤ length part.old }
-    ensures numbers_value { result + length (fields_behind (map decimal numbers.now)) ≡ length part.old }
-    ensures part_after { part.new
-        ≡ take result part.old ++ fields_behind (map decimal numbers.now) }
+// The fields of numbers, each behind a tab, and the line feed, in their own part.
+fn fill_fields(part: &mut [u8], numbers: &[u32])
+    requires { length part.old ≡ length (fields_behind (map decimal numbers.now)) }
+    ensures { part.new ≡ fields_behind (map decimal numbers.now) }
 {
     let mut at = part.len() - 1;
-    part[at] = 10;
-    let mut i = numbers.len();
-    while i > 0 {
-        i -= 1;
-        at = fill_decimal(part, at, numbers[i]) - 1;
-        part[at] = 9;
+    part[at] = b'\n';
+    for n in numbers.iter().rev() {
+        at = fill_field(&mut part[..at], *n);
     }
-    at
 }
 
 // A line, its first field and numbers, in its own part.
@@ -106,12 +85,9 @@ fn fill_line(part: &mut [u8], first: &[u8], numbers: &[u32])
     requires { length part.old ≡ length (line_of first.now numbers.now) }
     ensures { part.new ≡ line_of first.now numbers.now }
 {
-    fill_fields(part, numbers);
-    let mut i = 0;
-    while i < first.len() {
-        part[i] = first[i];
-        i += 1;
-    }
+    let (front, behind) = part.split_at_mut(first.len());
+    front.copy_from_slice(first);
+    fill_fields(behind, numbers);
 }
 
 // A line from a place on, where the buffer has room for it. Answers the place behind it.

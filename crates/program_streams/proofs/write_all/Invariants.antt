@@ -4,9 +4,10 @@ use Rattle.std.specs.Io.KnownBytes.{Appends}
 use Rattle.program_streams.proofs.write_all.Given as goal
 
 abbrev pub invariant-loop-done : goal.invariant-loop-done
-invariant-loop-done g l =
-    (l.done ≤ length l.bytes)
-    × Appends (g.O.Write.contents l.initial.output) (g.O.Write.contents l.output) (take l.done l.bytes)
+invariant-loop-done g l = record {
+  in_range : l.done ≤ length l.bytes;
+  written : Appends (g.O.Write.contents l.initial.output) (g.O.Write.contents l.output) (take l.done l.bytes);
+}
 
 abbrev pub decreases-loop-done : goal.decreases-loop-done
 decreases-loop-done g l = length l.bytes - l.done

@@ -1,50 +1,36 @@
--- `plan_line` reads the sizes, judges them and puts them. Assumes nothing.
-use mathlib.Core.Path.{◌≡◌, sym, ◌∙◌}
-use mathlib.Core.List.{[], ◌∷◌}
-use Rattle.std.specs.Prelude.{Some}
-use Rattle.spec_text.specs.Lines.{numbers}
-use Rattle.read_fields.specs.FieldPlaces.{fields_at}
-use Rattle.spec_format.specs.declared.Kind.{Kind}
+-- `plan_line` keeps what always holds: at the first line nothing has been read, so that the sizes are free. Assumes
+-- nothing.
+use Rattle.std.proofs.Common.{◌≡◌, refl, sym, ◌∙◌, ℕ, ◌*◌, true, List, [], ◌∷◌, length, arith, rules}
+use Rattle.std.proofs.Math.Nat.{zero-mul}
 use Rattle.spec_format.specs.declared.Sizes.{Sizes}
-use Rattle.spec_format.specs.ParsedLines.{directive_of, plan}
-use Rattle.read_tables.proofs.Puts.{put-alike}
-use Rattle.read_line_promises.proofs.LineKinds.{good-item, plan-read}
+use Rattle.spec_format.specs.declared.Move.{Move}
+use Rattle.spec_format.specs.Plan.{Plan, blocks_written}
+use Rattle.spec_format.specs.Faults.{in_range, last_of}
+use Rattle.read_tables.specs.declared.Note.{Note}
+use Rattle.read_tables.specs.Plans.{with_sizes}
+use Rattle.read_line_promises.specs.Consistent.{Consistent}
 use Rattle.read_plan_lines.proofs.plan_line.Goals as goal
 
-pub returns : goal.returns
-returns c =
-    let the_sizes : Sizes = record {
-      cards = c.wide.result;
-      jobs = c.wide-2.result;
-      blocks = c.wide-3.result;
-      words = c.wide-4.result;
-      copies = c.wide-5.result;
-    } in
-    let says-plan : directive_of Kind.Plan (numbers 5 (fields_at c.args.line.now c.args.at))
-    ≡ Some (plan (the_sizes)) = good-item Kind.Plan _ _ _
-    c.read_numbers.ensures.out_after
-    c.in-Read.is
-    ∙ λ i.
-    Some
-    (plan
-    (record {
-      cards = sym c.wide.ensures i;
-      jobs = sym c.wide-2.ensures i;
-      blocks = sym c.wide-3.ensures i;
-      words = sym c.wide-4.ensures i;
-      copies = sym c.wide-5.ensures i;
-    })) in
-    λ e.
-    plan-read _ c.args.plan.now _ e _ (the_sizes) (says-plan)
-    (sym c.in_range.ensures ∙ c.if-not-in_range.false)
-    c.requires.1.0
-    c.requires.1.1
-    (put-alike
-    (λ k.
-    sym c.wide.ensures k
-    ∷ sym c.wide-2.ensures k
-    ∷ sym c.wide-3.ensures k
-    ∷ sym c.wide-4.ensures k
-    ∷ sym c.wide-5.ensures k
-    ∷ [])
-    c.put_sizes.ensures)
+-- Where there is no update, the last one writes no block.
+none_written : (s : ℕ) (us : List (List Move)) → length us ≡ 0 → length (blocks_written s (last_of us)) ≡ 0
+unfolding blocks_written
+none_written s [] e = refl
+none_written s (u ∷ us) e = absurd (omega arith)
+
+-- What always holds, with the sizes of the first line.
+sized : (z : Sizes) (plan : Plan) (notes : List Note) (blocks written entries : ℕ) → in_range z ≡ true
+    → Consistent plan notes 0 blocks written entries → Consistent (with_sizes z plan) notes 1 blocks written entries
+sized z plan notes blocks written entries good h =
+    let no_block : blocks ≡ 0 = omega (arith, h.in_lines) in
+    let no_update : length plan.updates ≡ 0 = omega (arith, h.in_lines) in
+    let no_words : blocks * plan.sizes.words ≡ blocks * z.words
+    = rw (no_block, zero-mul plan.sizes.words, zero-mul z.words) in
+    let written_none = none_written plan.sizes.words plan.updates no_update in
+    let none = none_written z.words plan.updates no_update in
+    search rules
+
+pub invariant_of-progress : goal.invariant_of-progress
+invariant_of-progress c = record {
+  consistent = rw (c.set_sizes.ensures, c.requires)
+      (sized _ _ _ _ _ _ (sym c.in_range.ensures ∙ c.if-not-in_range.false) (rw c.requires at c.args.progress.now.consistent));
+}

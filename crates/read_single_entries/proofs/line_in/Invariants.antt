@@ -1,13 +1,9 @@
-use Prim.Native.Nat.{◌+◌, ◌-◌, ◌≤◌}
-use mathlib.Core.Path.{◌≡◌}
-use lib.ListN.{length}
-use Rattle.read_tables.specs.NoteTable.{listed_in}
+-- The loop's invariant: the line looked for is that of entry `left` of the notes that are left.
+use Rattle.std.proofs.Common.{◌≡◌, drop}
+use Rattle.spec_report.specs.Outcomes.{line_in}
+use Rattle.read_tables.specs.Notes.{listed_in}
 use Rattle.read_single_entries.proofs.line_in.Given as goal
 
-abbrev pub invariant-loop-k : goal.invariant-loop-k
-invariant-loop-k l =
-    (l.k ≤ l.n) × (l.i ≡ length (listed_in l.k l.notes) + l.left)
-
-abbrev pub decreases-loop-k : goal.decreases-loop-k
-decreases-loop-k l =
-    l.n - l.k
+abbrev pub invariant-loop-note : goal.invariant-loop-note
+invariant-loop-note l =
+    line_in (listed_in l.notes.items) l.i ≡ line_in (listed_in (drop l.note-index l.notes.items)) l.left

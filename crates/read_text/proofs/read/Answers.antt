@@ -1,58 +1,71 @@
--- `read` reads line after line: what is left to read comes to the same as the whole. Assumes nothing.
-use Prim.Native.Nat.{◌≤◌}
-use mathlib.Core.Path.{◌≡◌, sym, ◌∙◌}
-use lib.ListN.{length}
-use Rattle.read_line_promises.specs.Promises.{ReadTables, tables_read}
-use Rattle.read_text.specs.declared.Advance.{Advance}
-use Rattle.read_text.specs.Cursors.{Advanced}
-use Rattle.read_text.proofs.ReadOn.{starts, too_long, gives-refusal, gives-early, gives-plan, same-advance}
+-- `read` meets its contract: behind each line, what is left to read comes to the same as the whole. Assumes nothing.
+use Rattle.std.proofs.Common.{◌≡◌, refl, sym, ◌∙◌, ap, arith, rules, length, drop, ◌+◌, ◌-◌, List, [], ◌∷◌, ℕ}
+use Rattle.std.specs.Prelude.{Result}
+use Rattle.std.proofs.lemmas.List.{take_all, length-drop}
+use Rattle.std.proofs.lemmas.Result.{err_from_is_err_and}
+use Rattle.spec_format.specs.declared.LineFault.{LineFault}
+use Rattle.spec_format.specs.Reading.{Reading}
+use Rattle.read_line_promises.specs.declared.Progress.{Progress}
+use Rattle.read_text.specs.Readings.{reading_from, ReadTo}
+use Rattle.read_text.proofs.ReadOn.{too_long, starts, ends-early, ends, open-refused, line_refused, line_read, lines-is}
+use Rattle.read_text.proofs.ReadOn.{found}
 use Rattle.read_text.proofs.read.Goals as goal
 
-pub returns-then-text-gt65536 : goal.returns-then-text-gt65536
-returns-then-text-gt65536 c = too_long _ c.args.text.now _ _ c.if-text-gt65536.true
+-- What a text gives was read to this verdict and progress.
+read_to : {r : Reading} {v : Result ℕ LineFault} (p : Progress) → r ≡ reading_from v p.plan p.notes.items → ReadTo r v p
+read_to p e = record { gives = sym e; counted = p.consistent.counted; few_entries = p.consistent.entries_read }
 
-pub loop-c-init : goal.loop-c-init
-loop-c-init c = starts c.args.form c.args.text.now _ _ _ c.start-c.ensures c.requires.0 c.requires.1
+-- Nothing is left.
+none-left : (s : List ℕ) → length s ≡ 0 → s ≡ []
+none-left [] e = refl
+none-left (b ∷ s) e = absurd (omega arith)
 
-pub returns-in-Refused : goal.returns-in-Refused
-returns-in-Refused c =
-    let here : ReadTables = tables_read c.loop-c.plan c.loop-c.notes in
-    let measured : length c.args.text.now ≤ 65536 = c.if-text-gt65536.false in
-    let left : ReadTables = tables_read c.read_on-step.new.plan c.read_on-step.new.notes in
-    let promised : (y : Advance) → c.read_on-step.result ≡ y
-    → Advanced c.args.form c.args.text.now c.loop-c.c (here) y
-    (left) = λ y e. same-advance c.args.form c.args.text.now c.loop-c.c (here)
-    (left)
-    c.read_on-step.result
-    y
-    e
-    c.read_on-step.ensures in
-    gives-refusal c.args.form c.args.text.now c.loop-c.c (here) (measured)
-    c.loop-c.invariant.1.1
-    _
-    _
-    (promised _ c.in-Refused.is)
-    _
-    _
+pub returns-then-text-gt-LONGEST : goal.returns-then-text-gt-LONGEST
+returns-then-text-gt-LONGEST c = read_to c.args.progress.now (too_long _ _ c.if-text-gt-LONGEST.true)
 
-pub returns-then-laid_out : goal.returns-then-laid_out
-returns-then-laid_out c =
-    let here : ReadTables = tables_read c.loop-c.plan c.loop-c.notes in
-    let measured : length c.args.text.now ≤ 65536 = c.if-text-gt65536.false in
-    gives-plan c.args.form c.args.text.now c.loop-c.c (here) (measured)
-    c.loop-c.invariant.1.1
-    c.loop-c-test.false
-    (sym c.laid_out.ensures ∙ c.if-laid_out.true)
-    c.loop-c.invariant.0
-    c.loop-c.invariant.1.0
+pub loop-rest-init : goal.loop-rest-init
+loop-rest-init c =
+    let none : c.args.progress.now.lines ≡ 0 = ap (λ d. d.lines) c.requires.draft in
+    record {
+      room = omega (arith, none);
+      same = starts _ _ _ (omega arith) c.requires;
+    }
+
+pub returns-in_default : goal.returns-in_default
+returns-in_default c =
+    read_to c.loop-rest.progress
+    (c.loop-rest.invariant.same
+    ∙ open-refused _ _ _ (search rules) (sym c.end_of.ensures ∙ c.in_default.is))
+
+pub returns-in_err-read_line : goal.returns-in_err-read_line
+returns-in_err-read_line c =
+    let p = err_from_is_err_and c.from_residual.result c.from_residual.ensures.1 in
+    rw (p.1, p.2)
+    (read_to c.read_line.new.progress
+    (c.loop-rest.invariant.same
+    ∙ line_refused _ _ _ _ _ (sym c.end_of.ensures ∙ c.in-Some.is) _ c.in_err-read_line.ensures))
+
+pub loop-rest-preserved : goal.loop-rest-preserved
+loop-rest-preserved c =
+    let s = c.loop-rest.rest.now in
+    let end = c.in-Some.end in
+    let here = sym c.end_of.ensures ∙ c.in-Some.is in
+    let n = lines-is _ _ _ _ _ here c.in_ok-read_line.ensures in
+    let left = length-drop (end + 1) s in
+    rw (take_all (length s - (end + 1)) (drop (end + 1) s) (omega (arith, left)))
+    (record {
+      room = omega (arith, n, left, c.loop-rest.invariant.room, (found s end here).0);
+      same = c.loop-rest.invariant.same ∙ line_read _ _ _ _ _ here c.in_ok-read_line.ensures;
+    })
+
+pub returns-then-not-laid_out : goal.returns-then-not-laid_out
+returns-then-not-laid_out c =
+    read_to c.loop-rest.progress
+    (rw (none-left c.loop-rest.rest.now (search rules)) at c.loop-rest.invariant.same
+    ∙ ends-early _ c.loop-rest.progress (search rules))
 
 pub returns : goal.returns
 returns c =
-    let here : ReadTables = tables_read c.loop-c.plan c.loop-c.notes in
-    let measured : length c.args.text.now ≤ 65536 = c.if-text-gt65536.false in
-    gives-early c.args.form c.args.text.now c.loop-c.c (here) (measured)
-    c.loop-c.invariant.1.1
-    c.loop-c-test.false
-    (sym c.laid_out.ensures ∙ c.if-laid_out.false)
-    _
-    _
+    read_to c.loop-rest.progress
+    (rw (none-left c.loop-rest.rest.now (search rules)) at c.loop-rest.invariant.same
+    ∙ ends _ c.loop-rest.progress (search rules))

@@ -1,25 +1,28 @@
--- `fill_decimal` writes the digits of a number before a place, the last first. Assumes nothing.
+-- `fill_decimal` writes the digits of a number, the last first. Assumes nothing.
+use mathlib.Core.Path.{refl, ap}
+use mathlib.Core.List.{[]}
+use lib.ListN.{length}
 use native.Mathlib.Omega.{arith}
-use Rattle.text_lines.proofs.DigitsBefore.{next_place, one_more, last}
+use Rattle.text_lines.proofs.Backwards.{begun, room, more, done-is}
+use Rattle.spec_text.proofs.Digits.{decimal-large}
+use Rattle.text_lines.proofs.FieldsWritten.{some-digit, only-digit}
 use Rattle.text_lines.proofs.fill_decimal.Goals as goal
 
-pub overflow_sub-at : goal.overflow_sub-at
-overflow_sub-at c = omega (arith, next_place c.loop-rest.invariant (omega arith) (omega arith))
+pub loop-at-init : goal.loop-at-init
+loop-at-init c = begun _ _
 
-pub bounds-part-at : goal.bounds-part-at
-bounds-part-at c = omega (arith, next_place c.loop-rest.invariant (omega arith) (omega arith))
+pub loop-at-preserved : goal.loop-at-preserved
+loop-at-preserved c =
+    more c.loop-at.invariant _ _ _ (decimal-large c.loop-at.rest (omega arith) (omega arith)) (omega arith)
 
-pub loop-rest-preserved : goal.loop-rest-preserved
-loop-rest-preserved c = one_more c.loop-rest.invariant (omega arith) (omega arith) (omega arith)
+pub returns-then-rest-eq0-clause-place : goal.returns-then-rest-eq0-clause-place
+returns-then-rest-eq0-clause-place c =
+    omega (arith, room c.loop-at.invariant (omega arith), ap length (only-digit c.loop-at.rest c.if-rest-eq0.true))
 
-pub overflow_sub-at-2 : goal.overflow_sub-at-2
-overflow_sub-at-2 c = omega (arith, next_place c.loop-rest.invariant (omega arith) (omega arith))
+pub returns-then-rest-eq0-clause-part_after : goal.returns-then-rest-eq0-clause-part_after
+returns-then-rest-eq0-clause-part_after c =
+    done-is (more c.loop-at.invariant [] _ _ (only-digit c.loop-at.rest c.if-rest-eq0.true) (omega arith)) refl
 
-pub bounds-part-at-2 : goal.bounds-part-at-2
-bounds-part-at-2 c = omega (arith, next_place c.loop-rest.invariant (omega arith) (omega arith))
-
-pub returns-clause-n_value : goal.returns-clause-n_value
-returns-clause-n_value c = (last c.loop-rest.invariant (omega arith) (omega arith) (omega arith)).0
-
-pub returns-clause-part_after : goal.returns-clause-part_after
-returns-clause-part_after c = (last c.loop-rest.invariant (omega arith) (omega arith) (omega arith)).1
+pub unreachable-requires : goal.unreachable-requires
+unreachable-requires c =
+    omega (arith, some-digit c.loop-at.rest (omega arith), room c.loop-at.invariant (omega arith))

@@ -1,10 +1,6 @@
-use Rattle.text_lines.proofs.DigitsBefore.{Filling}
+use Rattle.spec_text.specs.Decimal.{decimal}
+use Rattle.text_lines.proofs.Backwards.{Filling}
 use Rattle.text_lines.proofs.fill_decimal.Given as goal
 
-abbrev pub invariant-loop-rest : goal.invariant-loop-rest
-invariant-loop-rest l =
-    Filling l.n l.end l.initial.part l.at l.rest l.part
-
-abbrev pub decreases-loop-rest : goal.decreases-loop-rest
-decreases-loop-rest l =
-    l.rest
+abbrev pub invariant-loop-at : goal.invariant-loop-at
+invariant-loop-at l = Filling (decimal l.n) (decimal l.rest) l.initial.part l.at l.part

@@ -1,13 +1,12 @@
--- `put_plan_lines` writes the lines before the updates one behind the other. Assumes nothing.
-use mathlib.Core.List.{append_assoc}
+-- `put_plan_lines` gives the lines before the updates one behind the other. Assumes nothing.
+use Rattle.std.proofs.Common.{◌++◌}
 use Rattle.spec_plan_text.specs.PlanText.{plan_line, job_lines, opening_block_lines}
-use Rattle.read_tables.specs.PlanTable.{plan_in}
-use Rattle.text_lines.proofs.Fills.{renamed, then}
-use Rattle.text_plan_lines.specs.BeforeUpdates.{before_updates}
 use Rattle.text_plan_lines.proofs.put_plan_lines.Goals as goal
 
 pub returns : goal.returns
-returns c =
-    let plan = plan_in c.args.plan.now in
-    renamed (before_updates plan) (append_assoc (plan_line plan.sizes) (job_lines plan) (opening_block_lines plan))
-    (then (then c.put_part-jobs.ensures c.put_jobs-blocks.ensures) c.put_blocks.ensures)
+returns g c =
+    let plan = c.args.plan.now in
+    let then = g.met.O.Output.then in
+    then (plan_line plan.sizes) (job_lines plan ++ opening_block_lines plan) _ _ _
+    (rw c.size_numbers.ensures at c.line.ensures)
+    (then (job_lines plan) (opening_block_lines plan) _ _ _ c.put_jobs.ensures c.put_blocks.ensures)

@@ -1,2 +1,0 @@
--- What reading and writing promise.
-pub mod Streams

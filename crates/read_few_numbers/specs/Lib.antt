@@ -1,2 +1,0 @@
--- What reading at most three numbers promises.
-pub mod Three

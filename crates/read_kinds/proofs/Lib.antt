@@ -1,0 +1,2 @@
+-- Laws on first fields.
+pub mod Words

@@ -1,0 +1,2 @@
+-- What a kind that can stand asks of what has been read.
+pub mod Standing

@@ -1,2 +1,0 @@
--- What reading the words of a block promises.
-pub mod PartRead

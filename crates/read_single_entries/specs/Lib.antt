@@ -1,2 +1,0 @@
--- How many notes and single entries a table holds.
-pub mod Holding

@@ -1,0 +1,2 @@
+-- Laws on the last of updates.
+pub mod Updates

@@ -1,0 +1,2 @@
+-- Laws on the blocks that moves write.
+pub mod WrittenBlocks

@@ -1,2 +1,0 @@
--- The search for the job that runs on a card.
-pub mod BestJob

@@ -1,2 +1,0 @@
--- The laws of an item by its place.
-pub mod ItemAtPlace

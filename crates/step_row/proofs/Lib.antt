@@ -1,2 +1,0 @@
--- Laws that the items H32 to H38 use: statuses that go as bits.
-pub mod StatusBits

@@ -1,2 +1,0 @@
--- The lines of a plan by its table.
-pub mod TableLines

@@ -1,0 +1,2 @@
+-- The lines of moves.
+pub mod MoveLines

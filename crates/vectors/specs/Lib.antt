@@ -1,2 +1,0 @@
--- The bounds of a tally.
-pub mod LowTally

@@ -1,0 +1,2 @@
+-- The bounds of tallies.
+pub mod LowTally
