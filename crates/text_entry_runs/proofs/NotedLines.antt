@@ -1,11 +1,12 @@
 -- A single entry behind the entry lines of notes: the last note is one step longer, where that is a run of its card
 -- (grows), and else it is a note of its own (begins). Assumes nothing.
 use Rattle.std.proofs.Common.{ℕ, suc, ◌+◌, ◌-◌, ◌≤◌, ◌≡◌, refl, sym, ap, arith, add-one}
-use Rattle.std.proofs.Common.{true, false, List, [], ◌∷◌, ◌++◌, length, get_or, eqb, append-nil}
+use Rattle.std.proofs.Common.{true, false, List, [], ◌∷◌, ◌++◌, length, get_or, eqb, ltb, append-nil}
 use Rattle.std.proofs.Math.ListN.{set, length-set}
 use Rattle.std.proofs.Math.Seq.{drop-length}
 use Rattle.std.proofs.lemmas.List.{take_all}
 use Rattle.std.specs.List.{refill}
+use borrow.Author.Tests.{ltb-true}
 use Rattle.spec_text.proofs.Cases.{by-test}
 use Rattle.spec_format.specs.declared.Entry.{Entry}
 use Rattle.spec_plan_text.specs.EntryLines.{EntryLine}
@@ -69,6 +70,14 @@ pub refilled : {A : Type 0} (xs : List A) (i : ℕ) (x : A) → refill (length x
 refilled {A} xs i x =
     rw (length-set xs i x, drop-length xs, append-nil (set xs i x))
     (take_all (length xs) (set xs i x) (omega (arith, length-set xs i x)))
+
+-- And so is one with none.
+pub same : {A : Type 0} (xs : List A) → refill (length xs) xs xs ≡ xs
+same xs = rw (drop-length xs, append-nil xs) (take_all (length xs) xs (omega arith))
+
+-- The last place of a list that has one.
+pub last_place : (notes : List Note) → true ≡ ltb 0 (length notes) → length notes ≡ (length notes - 1) + 1
+last_place notes some = omega (arith, ltb-true 0 (length notes) (sym some))
 
 -- No entry makes a call longer.
 called : (e : Entry) (n : Note) → eqb n.entry.kind 0 ≡ true → goes_on n e ≡ true → ⊥

@@ -25,10 +25,10 @@ fn add(notes: &mut Notes, e: Entry)
     requires steps_at_most { StepsAtMost 4000 (lines_noted notes.old.items) }
     ensures { lines_noted notes.new.items ≡ add_last e (lines_noted notes.old.items) }
 {
-    if let Some(last) = notes.len().checked_sub(1)
-        && goes_on(notes[last], e)
+    if let Some(last) = notes.last_mut()
+        && goes_on(*last, e)
     {
-        notes[last].times += 1;
+        last.times += 1;
         return;
     }
     notes.push(Note {

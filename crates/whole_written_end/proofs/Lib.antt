@@ -1,2 +1,2 @@
--- The text that tables hold, in parts, and the text written out.
+-- The text of a plan and of notes, in parts, and written out.
 pub mod TextParts

@@ -1,11 +1,7 @@
--- The text that tables hold: its parts, one behind the other, and how long they are; that it is the one text of the
--- plan and the single entries; and what it is to be written out. Assumes nothing.
-use Prim.Native.Nat.{ℕ, ◌+◌, ◌≤◌, ◌<◌}
-use mathlib.Core.Path.{◌≡◌, ap, ◌∙◌}
-use mathlib.Core.List.{List, ◌++◌, append_assoc}
-use native.Mathlib.Omega.{arith}
+-- The text of a plan and of notes: its parts, one behind the other; that it is the one text of the plan and the single
+-- entries; and what it is to be written out. Assumes nothing.
+use Rattle.std.proofs.Common.{ℕ, ◌≤◌, ◌<◌, ◌≡◌, refl, ◌∙◌, ap, arith, List, ◌++◌, length, append_assoc}
 use borrow.Author.Tests.{le-leb, lt-leb}
-use lib.ListN.{length, length-append}
 use Rattle.spec_text.specs.FirstPlaces.{in_first_places}
 use Rattle.spec_format.specs.declared.Entry.{Entry}
 use Rattle.spec_format.specs.Plan.{Plan}
@@ -15,46 +11,25 @@ use Rattle.spec_plan_text.specs.EntryLines.{entry_line_bytes}
 use Rattle.spec_plan_text.specs.PlanText.{plan_line, job_lines, opening_block_lines, all_update_lines, plan_text}
 use Rattle.spec_plan_text.specs.PlanText.{text_of}
 use Rattle.spec_plan_text.specs.Writing.{written_at}
-use Rattle.read_tables.specs.PlanTable.{plan_in}
-use Rattle.report_ending.specs.Finishing.{WrittenOut}
-use Rattle.report_ending.proofs.WrittenOut.{refused-out}
+use Rattle.read_tables.specs.declared.Note.{Note}
+use Rattle.report_ending.specs.Finishing.{WrittenOut, nothing_written}
 use Rattle.text_plan_lines.specs.BeforeUpdates.{before_updates}
-use Rattle.text_entry_runs.specs.Joined.{lines_noted, Joined}
+use Rattle.text_entry_runs.specs.Joined.{Joined}
 use Rattle.whole_written_end.specs.TextIn.{text_in}
 
 -- The lines before the updates, and the updates, are the text of the plan.
-plan-parts : (plan : Plan) → before_updates plan ++ all_update_lines plan ≡ plan_text plan
+pub plan_parts : (plan : Plan) → before_updates plan ++ all_update_lines plan ≡ plan_text plan
 unfolding plan_text
-plan-parts plan =
+plan_parts plan =
     append_assoc (plan_line plan.sizes) (job_lines plan ++ opening_block_lines plan) (all_update_lines plan)
     ∙ ap (λ (s : List ℕ). plan_line plan.sizes ++ s)
     (append_assoc (job_lines plan) (opening_block_lines plan) (all_update_lines plan))
 
-module _ (t : List ℕ) (n : ℕ) (notes : List ℕ) where
-  -- The three parts are the text,
-  pub text-parts :
-      (before_updates (plan_in t) ++ all_update_lines (plan_in t)) ++ entry_line_bytes (lines_noted n notes)
-      ≡ text_in t n notes
-  text-parts = ap (λ (s : List ℕ). s ++ entry_line_bytes (lines_noted n notes)) (plan-parts (plan_in t))
-
-  -- and so long.
-  pub text-long :
-      length (text_in t n notes)
-      ≡ length (before_updates (plan_in t)) + (length (all_update_lines (plan_in t))
-      + length (entry_line_bytes (lines_noted n notes)))
-  text-long =
-      omega (
-        arith,
-        ap length text-parts,
-        length-append (before_updates (plan_in t) ++ all_update_lines (plan_in t))
-            (entry_line_bytes (lines_noted n notes)),
-        length-append (before_updates (plan_in t)) (all_update_lines (plan_in t)),
-      )
-
-  -- It is the one text of the plan and the entries whose lines are noted.
-  pub text_is : (es : List Entry) → Joined es n notes → text_in t n notes ≡ text_of (plan_in t) es
-  unfolding text_of
-  text_is es j = ap (λ ls. plan_text (plan_in t) ++ entry_line_bytes ls) j.lines_are
+-- It is the one text of the plan and the entries whose lines are noted.
+pub text_is : (plan : Plan) (es : List Entry) (notes : List Note) → Joined es notes
+    → text_in plan notes ≡ text_of plan es
+unfolding text_of
+text_is plan es notes joined = ap (λ ls. plan_text plan ++ entry_line_bytes ls) joined.lines_are
 
 -- Bytes that fit are written out,
 pub fits_out : (e : End) (whole before after : List ℕ) (k : ℕ) → k ≡ length whole → k ≤ length before
@@ -65,18 +40,20 @@ fits_out e whole before after k long fits is =
     record { end_is = rw there; length_is = rw there long; left_is = rw there is }
 
 -- and others are not.
-pub short-out : (e : End) (whole before : List ℕ) → length before < length whole
-    → WrittenOut (written e whole) before (record { end = End.NoRoom; length = 0 }) before
+pub short_out : (e : End) (whole before : List ℕ) → length before < length whole
+    → WrittenOut (written e whole) before (nothing_written End.NoRoom) before
 unfolding left
-short-out e whole before short =
+short_out e whole before short =
     let past = lt-leb (length whole) (length before) short in
     record { end_is = rw past; length_is = rw past; left_is = rw past }
 
--- A run that is not accepted writes nothing: its end is the writer's.
-pub none_out : (e x : End) (text before : List ℕ) → e ≡ x → written_at x text ≡ refused x
-    → WrittenOut (written_at e text) before (record { end = e; length = 0 }) before
-none_out e x text before same is = refused-out e before (rw same is)
+-- After a run that is refused nothing is written: its end is the writer's.
+pub refused_at : (e : End) (text : List ℕ) → ((n : ℕ) → e ≡ End.Accepted n → ⊥) → written_at e text ≡ refused e
+refused_at (End.Accepted n) text not = absurd (not n refl)
+refused_at (End.Faulty f n) text not = refl
+refused_at (End.Refused r i n) text not = refl
+refused_at End.NoRoom text not = refl
 
 -- After a run that is accepted the text is written.
-pub accepted-at : (e : End) (n : ℕ) (text : List ℕ) → e ≡ End.Accepted n → written e text ≡ written_at e text
-accepted-at e n text same = rw same
+pub accepted_at : (e : End) (n : ℕ) (text : List ℕ) → e ≡ End.Accepted n → written e text ≡ written_at e text
+accepted_at e n text same = rw same

@@ -1,2 +1,2 @@
--- The text that tables hold.
+-- The text of a plan and the entry lines that notes stand for.
 pub mod TextIn

@@ -1,96 +1,75 @@
-// The one text of a plan and single entries, from the tables: measured, and written into a lent buffer where there is
-// room for all of it.
+// The one text of a plan and single entries: counted, and written into a lent buffer where there is room for all of it.
 #![tactic(auto)]
 
-ghost use Rattle.std.specs.Prelude.{◌≤◌, ◌≡◌, length};
+ghost use Rattle.std.specs.Prelude.{◌≤◌, ◌≡◌, length, min};
+ghost use Rattle.spec_text.specs.FirstPlaces.{in_first_places};
+ghost use Rattle.spec_format.specs.Plan.{entries_in};
 ghost use Rattle.spec_format.specs.Sound.{Sound};
 ghost use Rattle.spec_report.specs.Outcomes.{written};
 ghost use Rattle.spec_plan_text.specs.PlanText.{text_of};
 ghost use Rattle.spec_plan_text.specs.Writing.{written_at};
-ghost use Rattle.read_tables.specs.NoteTable.{note_places, listed_in};
-ghost use Rattle.spec_format.specs.Plan.{entries_in};
-ghost use Rattle.read_single_entries.specs.Holding.{Holding};
-ghost use Rattle.read_tables.specs.PlanTable.{plan_in};
+ghost use Rattle.read_tables.specs.Notes.{listed_in};
 ghost use Rattle.report_ending.specs.Finishing.{WrittenOut};
-ghost use Rattle.text_lines.specs.Fills.{Fills};
 ghost use Rattle.whole_written_end.specs.TextIn.{text_in};
 
-use read_tables::{NOTE_PLACES, PLAN_PLACES};
+use read_tables::{Note, Notes, Plan};
 use report_ending::WrittenEnd;
 use spec_report::End;
+use text_outputs::{Count, Output, Part};
 
-// How long the text is of a plan and the entry lines of n notes.
-fn text_length(plan: &[u32; PLAN_PLACES], notes: &[u32; NOTE_PLACES], n: usize) -> usize
-    requires { Sound (plan_in plan.now) × (n ≤ 4000) }
-    ensures { result ≡ length (text_in plan.now n notes.now) }
+// The text of a plan and the entry lines of notes, to any output.
+fn put_text<O: Output>(plan: &Plan, notes: &[Note], output: &mut O)
+    requires { Sound plan.now }
+    ensures { O.Takes (text_in plan.now notes.now) output.old output.new }
 {
-    text_plan_lines::plan_lines_length(plan)
-        + text_update_lines::updates_length(plan)
-        + text_entry_lines::entries_length(notes, n)
+    text_plan_lines::put_plan_lines(plan, output);
+    text_update_lines::put_updates(plan, output);
+    text_entry_lines::put_entries(notes, output);
 }
 
-// That text, from the buffer's start on.
-fn put_text(
-    buffer: &mut [u8],
-    plan: &[u32; PLAN_PLACES],
-    notes: &[u32; NOTE_PLACES],
-    n: usize,
-) -> usize
-    requires sound { Sound (plan_in plan.now) × (n ≤ 4000) }
-    requires notes_in_bounds { length (text_in plan.now n notes.now) ≤ length buffer.old }
-    ensures { Fills (text_in plan.now n notes.now) 0 buffer.old result
-        buffer.new }
+// How long that text is, or the largest number where it is longer.
+fn text_length(plan: &Plan, notes: &[Note]) -> usize
+    requires { Sound plan.now }
+    ensures { min result 18446744073709551615 ≡ min (length (text_in plan.now notes.now)) 18446744073709551615 }
 {
-    let updates = text_plan_lines::put_plan_lines(buffer, 0, plan);
-    let entries = text_update_lines::put_updates(buffer, updates, plan);
-    text_entry_lines::put_entries(buffer, entries, notes, n)
+    let mut count = Count(0);
+    put_text(plan, notes, &mut count);
+    count.0
+}
+
+// That text in the first places of a buffer that has room for it.
+fn fill(buffer: &mut [u8], plan: &Plan, notes: &[Note])
+    requires sound { Sound plan.now }
+    requires room { length (text_in plan.now notes.now) ≤ length buffer.old }
+    ensures { buffer.new ≡ in_first_places (text_in plan.now notes.now) buffer.old }
+{
+    put_text(plan, notes, &mut Part { buffer, at: 0 });
 }
 
 // That text, where there is room for all of it; else 15, and the buffer stays as it is.
-fn write(
-    plan: &[u32; PLAN_PLACES],
-    notes: &[u32; NOTE_PLACES],
-    n: usize,
-    end: End,
-    buffer: &mut [u8],
-) -> WrittenEnd
-    requires { Sound (plan_in plan.now) × (n ≤ 4000) }
-    ensures { WrittenOut (written end (text_in plan.now n notes.now))
-        buffer.old result buffer.new }
+fn write(plan: &Plan, notes: &[Note], end: End, buffer: &mut [u8]) -> WrittenEnd
+    requires { Sound plan.now }
+    ensures { WrittenOut (written end (text_in plan.now notes.now)) buffer.old result buffer.new }
 {
-    let length = text_length(plan, notes, n);
+    let length = text_length(plan, notes);
     if buffer.len() < length {
-        return WrittenEnd {
-            end: End::NoRoom,
-            length: 0,
-        };
+        return WrittenEnd::nothing(End::NoRoom);
     }
-    put_text(buffer, plan, notes, n);
+    fill(buffer, plan, notes);
     WrittenEnd { end, length }
 }
 
-// What is written after a run of the single entries of the first `noted` notes, which hold so many, that ended so: the
-// text, unless the run is refused. The table of notes is overwritten.
-pub fn write_after(
-    plan: &[u32; PLAN_PLACES],
-    notes: &mut [u32; NOTE_PLACES],
-    noted: usize,
-    count: usize,
-    end: End,
-    buffer: &mut [u8],
-) -> WrittenEnd
-    requires { Sound (plan_in plan.now) × (Holding noted notes.old count × (length notes.old ≡ note_places)) }
-    ensures { WrittenOut
-        (written_at end (text_of (plan_in plan.now) (entries_in (listed_in noted notes.old))))
+// What is written after a run of the notes' single entries that ended so: the text, unless the run is refused. The
+// notes are overwritten.
+pub fn write_after(plan: &Plan, notes: &mut Notes, end: End, buffer: &mut [u8]) -> WrittenEnd
+    requires sound { Sound plan.now }
+    requires few { length (listed_in notes.old.items) ≤ 4000 }
+    ensures { WrittenOut (written_at end (text_of plan.now (entries_in (listed_in notes.old.items))))
         buffer.old result buffer.new }
 {
-    match end {
-        End::Accepted(_) => {
-            let n = text_entry_runs::join_notes(notes, noted, count);
-            write(plan, notes, n, end, buffer)
-        }
-        End::Faulty(_, _) => WrittenEnd { end, length: 0 },
-        End::Refused(_, _, _) => WrittenEnd { end, length: 0 },
-        End::NoRoom => WrittenEnd { end, length: 0 },
-    }
+    let End::Accepted(_) = end else {
+        return WrittenEnd::nothing(end);
+    };
+    text_entry_runs::join_notes(notes);
+    write(plan, notes.as_slice(), end, buffer)
 }

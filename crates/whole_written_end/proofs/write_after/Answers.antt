@@ -1,26 +1,23 @@
 -- `write_after` joins the entries and writes the text where the run is accepted. Assumes nothing.
-use mathlib.Core.Path.{refl, ap, ◌∙◌}
+use Rattle.std.proofs.Common.{ap, ◌∙◌}
 use Rattle.spec_format.specs.Plan.{entries_in}
 use Rattle.spec_report.specs.Outcomes.{written}
-use Rattle.read_tables.specs.NoteTable.{listed_in}
-use Rattle.report_ending.proofs.WrittenOut.{same_outcome}
-use Rattle.whole_written_end.proofs.TextParts.{text_is, none_out, accepted-at}
+use Rattle.spec_plan_text.specs.PlanText.{text_of}
+use Rattle.read_tables.specs.Notes.{listed_in}
+use Rattle.report_ending.proofs.WrittenOut.{same_outcome, refused-out}
+use Rattle.whole_written_end.proofs.TextParts.{text_is, refused_at, accepted_at}
 use Rattle.whole_written_end.proofs.write_after.Goals as goal
 
-pub returns-in-Accepted : goal.returns-in-Accepted
-returns-in-Accepted c =
+pub returns-in_default : goal.returns-in_default
+returns-in_default c =
+    rw c.nothing.ensures
+    (refused-out c.args.end c.args.buffer.now (refused_at c.args.end _ c.in_default.not-Accepted))
+
+pub returns : goal.returns
+returns c =
+    let es = entries_in (listed_in c.args.notes.now.items) in
     same_outcome
     (ap (written c.args.end)
-    (text_is c.args.plan.now c.join_notes-n.result c.join_notes-n.new.notes
-    (entries_in (listed_in c.args.noted c.args.notes.now)) c.join_notes-n.ensures)
-    ∙ accepted-at c.args.end _ _ c.in-Accepted.is)
+    (text_is c.args.plan.now es c.as_slice.result.now (rw (← c.as_slice.ensures.value) at c.join_notes.ensures))
+    ∙ accepted_at c.args.end c.in-Accepted.field-0 (text_of c.args.plan.now es) c.in-Accepted.is)
     c.write.ensures
-
-pub returns-in-Faulty : goal.returns-in-Faulty
-returns-in-Faulty c = none_out _ _ _ _ c.in-Faulty.is refl
-
-pub returns-in-Refused : goal.returns-in-Refused
-returns-in-Refused c = none_out _ _ _ _ c.in-Refused.is refl
-
-pub returns-in-NoRoom : goal.returns-in-NoRoom
-returns-in-NoRoom c = none_out _ _ _ _ c.in-NoRoom.is refl
