@@ -10,23 +10,21 @@ ghost use Rattle.report_ending.specs.Finishing.{ended_of};
 ghost use Rattle.public_reference.specs.Answers.{answer_of};
 
 use public_reference::Answer;
-use read_tables::{NOTE_PLACES, PLAN_PLACES};
 use report_ending::Ended;
 use spec_format::{Entry, Form};
-use step_cells::CELL_PLACES;
 
 // Judges a text by the numbers 1 to 10, 16 and 17: see public_reference::check.
 pub fn point_memory_check(text: &[u8]) -> Answer
     ensures { result ≡ answer_of (verdict_of (reading Form.Schedule text.now)) }
 {
-    public_reference::answer_of(public_reference::check(text, Form::Schedule))
+    public_reference::check(text, Form::Schedule).into()
 }
 
 // The same of a plan's text, in which an entry line is 3.
 pub fn point_memory_check_plan(text: &[u8]) -> Answer
     ensures { result ≡ answer_of (verdict_of (reading Form.PlanAlone text.now)) }
 {
-    public_reference::answer_of(public_reference::check(text, Form::PlanAlone))
+    public_reference::check(text, Form::PlanAlone).into()
 }
 
 // Runs a text: see public_reference::run.
@@ -46,36 +44,7 @@ pub fn point_memory_run_schedule(text: &[u8], records: &[Entry], buffer: &mut [u
     ensures buffer_after { buffer.new
         ≡ left (run_schedule text.now records.now) buffer.old }
 {
-    let mut plan = [0u32; PLAN_PLACES];
-    let mut cells = [0u32; CELL_PLACES];
-    let mut stat = [0i32; 17];
-    let mut store = [0u32; 2304];
-    let empty = [0u32; 16];
-    let mut addr = [empty; 16];
-    let mut old = [empty; 16];
-    let mut new = [empty; 16];
-    let none = [0u32; 3];
-    let mut commits = [none; 4000];
-    let count = records.len();
-    let begun = whole_records_start::begin(
-        text, count, &mut plan, &mut cells, &mut stat, &mut store,
-    );
-    run_loop::run_records(
-        records,
-        begun.n,
-        &plan,
-        &mut cells,
-        &mut stat,
-        &mut store,
-        &mut addr,
-        &mut old,
-        &mut new,
-        &mut commits,
-    );
-    let verdict = begun.verdict;
-    whole_records_end::finish(
-        verdict, count, &plan, &cells, &stat, &store, &commits, buffer,
-    )
+    whole_records_end::run_schedule(text, records, buffer).into()
 }
 
 // Writes a text: see public_writer::write.
@@ -95,9 +64,5 @@ pub fn point_memory_write_schedule(text: &[u8], records: &[Entry], buffer: &mut 
     ensures buffer_after { buffer.new
         ≡ left (write_schedule text.now records.now) buffer.old }
 {
-    let mut plan = [0u32; PLAN_PLACES];
-    let mut notes = [0u32; NOTE_PLACES];
-    let verdict = whole_records_start::read_lent(text, &mut plan, &mut notes);
-    let count = read_records::note_records(records, &mut notes);
-    whole_written_records::write_noted(verdict, count, &plan, &mut notes, buffer)
+    whole_written_records::write_schedule(text, records, buffer).into()
 }

@@ -1,15 +1,11 @@
--- What a text comes to can be printed into a buffer with room, where it runs (run-printable) and where it is written
--- (write-printable): what is printed is not empty and not too long, and the line and the entry of its end are small.
+-- What a text comes to can be printed into a buffer with room, where it runs (run-printable), where it is written
+-- (write-printable) and where it is checked (check-printable): what is printed is not empty and not too long, and the line and the entry of its end are small.
 -- Assumes nothing.
-use Prim.Native.Nat.{ℕ, ◌≤◌, ◌<◌}
-use mathlib.Core.Path.{◌≡◌, refl, sym, ap, subst, ◌∙◌}
-use mathlib.Core.List.{List}
-use native.Mathlib.Omega.{arith}
-use lib.ListN.{length}
+use Rattle.std.proofs.Common.{◌≡◌, refl, sym, ap, subst, ◌∙◌, ℕ, ◌≤◌, ◌<◌, List, length, arith}
 use Rattle.spec_format.specs.declared.Entry.{Entry}
 use Rattle.spec_format.specs.declared.Form.{Form}
 use Rattle.spec_format.specs.Plan.{Plan, entries_in}
-use Rattle.spec_format.specs.Reading.{Reading, refusal, accepted, reading}
+use Rattle.spec_format.specs.Reading.{Reading, refusal, accepted, reading, verdict_of}
 use Rattle.spec_format.proofs.Sound.{accepted-sound, accepted-few, entries-many}
 use Rattle.spec_format.proofs.LineCounts.{low_count, low-lines, low-refused}
 use Rattle.spec_machine.specs.History.{run_of}
@@ -18,14 +14,14 @@ use Rattle.spec_report.specs.declared.End.{End}
 use Rattle.spec_report.specs.Report.{end_line, end_entry}
 use Rattle.spec_report.specs.Outcomes.{Outcome, refused, written, of_reading, run_text, printed}
 use Rattle.spec_report.proofs.Ends.{end_low, entry-low}
-use Rattle.spec_report_length.specs.Longest.{longest_report}
+use Rattle.spec_report_length.specs.Longest.{longest_report, longest_end}
 use Rattle.spec_report_length.proofs.LineLengths.{end_short}
 use Rattle.spec_report_length.proofs.Short.{printed-short, printed-some}
 use Rattle.spec_plan_text.specs.LongestText.{longest_text}
 use Rattle.spec_plan_text.specs.PlanText.{plan_text, text_of}
 use Rattle.spec_plan_text.specs.Writing.{written_at, after_run, write_text}
 use Rattle.spec_plan_text.proofs.WrittenTexts.{text-follows, text-written}
-use Rattle.public_printing.specs.Printing.{end_of_outcome, Printable}
+use Rattle.public_printing.specs.Printing.{end_of_outcome, end_of_check, Printable}
 
 -- The line and the entry of an end are small.
 abbrev SmallEnd : End → Type 0
@@ -107,4 +103,25 @@ write-printable text long =
       some = (write-printed text).1;
       line = (write-small text).0;
       entry = (write-small text).1;
+    }
+
+-- The line and the entry of a check's end are small.
+check-small : (text : List ℕ) → SmallEnd (end_of_check (verdict_of (reading Form.Schedule text)))
+check-small text = go (reading Form.Schedule text) refl
+  where
+    go : (r : Reading) → reading Form.Schedule text ≡ r → SmallEnd (end_of_check (verdict_of r))
+    go (refusal f n) e = (low-refused Form.Schedule text f n e, omega arith)
+    go (accepted plan ls n) e = (omega (arith, low_count Form.Schedule text plan ls n e), omega arith)
+
+-- A check, with which nothing is written, can be printed where there is room for every last line.
+pub check-printable : (text : List ℕ) {before : List ℕ} → longest_end ≤ length before
+    → Printable (refused (end_of_check (verdict_of (reading Form.Schedule text)))) before
+unfolding printed
+check-printable text long =
+    let low = check-small text in
+    record {
+      short = omega (arith, end_short (end_of_check (verdict_of (reading Form.Schedule text))) low.0);
+      some = omega arith;
+      line = low.0;
+      entry = low.1;
     }

@@ -1,7 +1,7 @@
 -- What the programs print of a text, and the answer that goes with it. Printed is declared in src/lib.rt. Assumes
 -- nothing.
-use Rattle.std.specs.Prelude.{ℕ, ◌≤◌, ◌<◌, List, length}
-use Rattle.spec_format.specs.declared.Verdict.{Verdict}
+use Rattle.std.specs.Prelude.{ℕ, ◌≤◌, ◌<◌, List, length, Result, Ok, Err}
+use Rattle.spec_format.specs.declared.LineFault.{LineFault}
 use Rattle.spec_report.specs.declared.End.{End}
 use Rattle.spec_report.specs.Report.{end_number, end_line, end_entry, report_end}
 use Rattle.spec_report.specs.Outcomes.{Outcome, refused, written, printed}
@@ -36,14 +36,14 @@ pub record Finished (o : Outcome) (before : List ℕ) (r : WrittenEnd) (after : 
   pub out : WrittenOut o before r after
 
 -- How a check ends.
-abbrev pub end_of_check : Verdict → End
-end_of_check (Verdict.Accepted n) = End.Accepted n
-end_of_check (Verdict.Refused f n) = End.Faulty f n
+abbrev pub end_of_check : Result ℕ LineFault → End
+end_of_check (Ok n) = End.Accepted n
+end_of_check (Err e) = End.Faulty e.fault e.line
 
 -- What is printed of a check: `end number line`.
-abbrev pub check_printed : Verdict → List ℕ
+abbrev pub check_printed : Result ℕ LineFault → List ℕ
 check_printed v = report_end (end_of_check v)
 
 -- The answer beside it.
-abbrev pub check_answer : Verdict → Printed
+abbrev pub check_answer : Result ℕ LineFault → Printed
 check_answer v = answered (end_of_check v) (check_printed v)

@@ -8,10 +8,12 @@ ghost use Rattle.spec_format.specs.Reading.{reading, verdict_of};
 ghost use Rattle.io.specs.Counts.{IsPrefixLen};
 ghost use Rattle.spec_report.specs.Outcomes.{Outcome, run_text, printed};
 ghost use Rattle.spec_plan_text.specs.Writing.{write_text};
-ghost use Rattle.public_printing.specs.Printing.{outcome_answer, Finished, check_printed, check_answer};
+ghost use Rattle.report_ending.specs.Finishing.{nothing_written};
+ghost use Rattle.public_printing.specs.Printing.{outcome_answer, Finished, end_of_check, check_printed, check_answer};
 
 use report_ending::WrittenEnd;
-use spec_format::Form;
+use spec_format::{Form, Verdict};
+use spec_report::End;
 
 // Room for what is printed of every run and of every text that is written: no report is longer than 75,101 bytes, and
 // no written text than 59,186.
@@ -32,32 +34,26 @@ pub struct Printed {
 
 // What is to be printed of an outcome that was written out, put into the first places of the buffer: the bytes that
 // stand there, or `end number line` alone where there are none.
-fn print_ended(finished: WrittenEnd, buffer: &mut [u8; OUTPUT]) -> Printed
+fn print_ended(finished: WrittenEnd, buffer: &mut [u8]) -> Printed
     requires { (o : Outcome) × ((before : List ℕ) × Finished o before finished buffer.old) }
     ensures { (o : Outcome) (before : List ℕ) → Finished o before finished buffer.old
         → (result ≡ outcome_answer o)
         × (IsPrefixLen result.length buffer.new × (buffer.new ≡ in_first_places (printed o) before)) }
 {
-    let end = finished.end;
-    let written = finished.length;
-    let number = report_ending::end_number(end) as u32;
-    let line = report_ending::end_line(end) as u32;
-    let entry = report_ending::end_entry(end) as u32;
-    if written > 0 {
-        return Printed {
-            number,
-            line,
-            entry,
-            length: written,
-        };
-    }
-    let last = report_lines::put_end(buffer, 0, number, line);
-    Printed {
+    let number = report_ending::end_number(finished.end) as u32;
+    let line = report_ending::end_line(finished.end) as u32;
+    let entry = report_ending::end_entry(finished.end) as u32;
+    let printed = Printed {
         number,
         line,
         entry,
-        length: last,
+        length: finished.length,
+    };
+    if printed.length > 0 {
+        return printed;
     }
+    let length = report_lines::put_end(buffer, 0, number, line);
+    Printed { length, ..printed }
 }
 
 // Runs a text. What is to be printed then stands in the first places of the buffer: the report, or `end number line`
@@ -84,6 +80,16 @@ pub fn print_write(text: &[u8], buffer: &mut [u8; OUTPUT]) -> Printed
     print_ended(finished, buffer)
 }
 
+// A check ends with its verdict, and nothing is written.
+fn ended_check(verdict: Verdict) -> WrittenEnd
+    ensures { result ≡ nothing_written (end_of_check verdict) }
+{
+    match verdict {
+        Ok(lines) => WrittenEnd::nothing(End::Accepted(lines)),
+        Err(refused) => refused.into(),
+    }
+}
+
 // Checks a text as a plan with its schedule. What is to be printed then stands in the first places of the buffer.
 pub fn print_check(text: &[u8], buffer: &mut [u8; ANSWER]) -> Printed
     ensures value { result ≡ check_answer (verdict_of (reading Form.Schedule text.now)) }
@@ -91,14 +97,6 @@ pub fn print_check(text: &[u8], buffer: &mut [u8; ANSWER]) -> Printed
     ensures buffer_after { buffer.new
         ≡ in_first_places (check_printed (verdict_of (reading Form.Schedule text.now))) buffer.old }
 {
-    let answer = public_reference::answer_of(public_reference::check(text, Form::Schedule));
-    let number = answer.number as u32;
-    let line = answer.line as u32;
-    let length = report_lines::put_end(buffer, 0, number, line);
-    Printed {
-        number,
-        line,
-        entry: 0,
-        length,
-    }
+    let finished = ended_check(public_reference::check(text, Form::Schedule));
+    print_ended(finished, buffer)
 }

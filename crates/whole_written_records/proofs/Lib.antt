@@ -1,2 +1,2 @@
--- The laws of a plan's text with noted records that is written.
+-- The laws of a plan's text with records that is written.
 pub mod RecordsWritten

@@ -1,76 +1,35 @@
-// A plan's text that was read, with noted records, written: the records run, and where the run is not refused the one
-// text of the plan and the records is written into the lent buffer.
+// A plan's text with a schedule of records, written: the records run, and where the run is not refused the one text of
+// the plan and the records is written into the lent buffer.
 #![tactic(auto)]
 
-ghost use Rattle.std.specs.Prelude.{◌≡◌, List, ℕ};
-ghost use Rattle.spec_format.specs.declared.Entry.{Entry};
-ghost use Rattle.spec_report.specs.Outcomes.{left};
 ghost use Rattle.spec_plan_text.specs.Writing.{write_schedule};
-ghost use Rattle.read_records.specs.Noted.{Noted};
-ghost use Rattle.whole_records_start.specs.BeforeAndAfter.{PlanRead};
-ghost use Rattle.report_ending.specs.Finishing.{WrittenOut, ended_of};
+ghost use Rattle.report_ending.specs.Finishing.{WrittenOut, finished};
 
-use read_records::MOST;
-use read_tables::{NOTE_PLACES, PLAN_PLACES};
-use report_ending::{Ended, WrittenEnd};
-use spec_format::{Fault, Verdict};
-use spec_report::End;
+use read_tables::Notes;
+use report_ending::WrittenEnd;
+use spec_format::{Entry, LineFault};
 
-// The noted records run, once, and are written, unless the plan's text or a record is refused.
-fn write_run(
-    verdict: Verdict,
-    count: usize,
-    plan: &[u32; PLAN_PLACES],
-    notes: &mut [u32; NOTE_PLACES],
+// Writes records beside a plan's text, unless the text or a record is refused. The records are noted as a text's entry
+// lines are, run from the notes, once, and written from them.
+fn write_unrefused(
+    text: &[u8],
+    records: &[Entry],
     buffer: &mut [u8],
-) -> WrittenEnd
-    requires { (text : List ℕ) × (es : List Entry)
-        × PlanRead text verdict plan.now × Noted es count notes.old }
-    ensures { (text : List ℕ) (es : List Entry) → PlanRead text verdict plan.now
-        → Noted es count notes.old
-        → WrittenOut (write_schedule text es) buffer.old result buffer.new }
+) -> Result<WrittenEnd, LineFault>
+    ensures { WrittenOut (write_schedule text.now records.now) buffer.old (finished result) buffer.new }
 {
-    if let Verdict::Refused(fault, line) = verdict {
-        return WrittenEnd {
-            end: End::Faulty(fault, line),
-            length: 0,
-        };
-    }
-    if count > MOST {
-        let past = MOST + 1;
-        return WrittenEnd {
-            end: End::Faulty(Fault::TooMany, past),
-            length: 0,
-        };
-    }
-    let ran = run_from_opening::run_notes(plan, notes, count, count);
-    let other = ran.other;
-    if other > 0 {
-        return WrittenEnd {
-            end: End::Faulty(Fault::Misplaced, other),
-            length: 0,
-        };
-    }
+    let plan = whole_records_start::begin(text, records)?;
+    let mut notes = Notes::new();
+    read_records::note_records(records, &mut notes);
+    let ran = run_from_opening::run_notes(&plan, &notes);
     let place = ran.entries + 1;
-    let end = report_ending::end_of(ran.halt, place, place, count);
-    whole_written_end::write_after(plan, notes, count, count, end, buffer)
+    let end = whole_records_end::end_of_records(ran.halt, place, ran.other, records.len())?;
+    Ok(whole_written_end::write_after(&plan, &mut notes, end, buffer))
 }
 
-// Writes the plan that was read to this verdict, with noted records.
-pub fn write_noted(
-    verdict: Verdict,
-    count: usize,
-    plan: &[u32; PLAN_PLACES],
-    notes: &mut [u32; NOTE_PLACES],
-    buffer: &mut [u8],
-) -> Ended
-    requires { (text : List ℕ) × (es : List Entry)
-        × PlanRead text verdict plan.now × Noted es count notes.old }
-    ensures { (text : List ℕ) (es : List Entry) → PlanRead text verdict plan.now
-        → Noted es count notes.old
-        → (result ≡ ended_of (write_schedule text es) buffer.old)
-        × (buffer.new ≡ left (write_schedule text es) buffer.old) }
+// Writes records beside a plan's text.
+pub fn write_schedule(text: &[u8], records: &[Entry], buffer: &mut [u8]) -> WrittenEnd
+    ensures { WrittenOut (write_schedule text.now records.now) buffer.old result buffer.new }
 {
-    let finished = write_run(verdict, count, plan, notes, buffer);
-    report_ending::ended_of(finished)
+    write_unrefused(text, records, buffer).unwrap_or_else(WrittenEnd::from)
 }

@@ -1,28 +1,31 @@
--- `print_check` prints the answer to the check. Assumes nothing.
-use mathlib.Core.Path.{◌≡◌, ap, ◌∙◌}
-use native.Mathlib.Omega.{arith}
-use borrow.Author.Rules.{rules}
-use Rattle.spec_format.specs.declared.Verdict.{Verdict}
-use Rattle.public_reference.specs.declared.Answer.{Answer}
-use Rattle.public_reference.specs.Answers.{answer_of}
-use Rattle.public_printing.proofs.PrintedWhole.{line_low, check_done}
+-- `print_check` prints what the check of its text comes to. Assumes nothing.
+use Rattle.std.proofs.Common.{◌≡◌, refl, ap, ◌∙◌, ℕ, List, length, ◌≤◌, arith}
+use Rattle.spec_format.specs.declared.Form.{Form}
+use Rattle.spec_format.specs.Reading.{reading, verdict_of}
+use Rattle.spec_report.specs.Outcomes.{refused, printed}
+use Rattle.report_ending.specs.declared.WrittenEnd.{WrittenEnd}
+use Rattle.report_ending.specs.Finishing.{nothing_written}
+use Rattle.report_ending.proofs.WrittenOut.{refused-out}
+use Rattle.spec_report_length.specs.Longest.{longest_end}
+use Rattle.public_printing.specs.Printing.{end_of_check, Finished}
+use Rattle.public_printing.proofs.PrintableTexts.{check-printable}
 use Rattle.public_printing.proofs.print_check.Goals as goal
 
--- The answer is that of the verdict.
-answered : (a : Answer) (v w : Verdict) → a ≡ answer_of v → v ≡ w → a ≡ answer_of w
-answered a v w is checked = is ∙ ap answer_of checked
+-- A check of a text has nothing written, and can be printed.
+finished : (text : List ℕ) {before : List ℕ} {r : WrittenEnd} → longest_end ≤ length before
+    → r ≡ nothing_written (end_of_check (verdict_of (reading Form.Schedule text)))
+    → Finished (refused (end_of_check (verdict_of (reading Form.Schedule text)))) before r before
+finished text {before} long is =
+    rw is (record { can = check-printable text long; out = refused-out _ before refl })
 
-pub overflow_cast-line : goal.overflow_cast-line
-overflow_cast-line c =
-    let few = line_low _ (answered _ _ _ c.answer_of-answer.ensures c.check.ensures) in
-    search (rules, few)
+pub print_ended-requires : goal.print_ended-requires
+print_ended-requires c =
+    let is = c.ended_check-finished.ensures ∙ ap (λ v. nothing_written (end_of_check v)) c.check.ensures in
+    (_, (_, finished c.args.text.now (omega arith) is))
 
-pub returns-clause-prefix_len : goal.returns-clause-prefix_len
-returns-clause-prefix_len c =
-    (check_done _ (answered _ _ _ c.answer_of-answer.ensures c.check.ensures) (omega arith)
-    c.put_end-length.ensures).1.0
-
-pub returns-clause-buffer_after : goal.returns-clause-buffer_after
-returns-clause-buffer_after c =
-    (check_done _ (answered _ _ _ c.answer_of-answer.ensures c.check.ensures) (omega arith)
-    c.put_end-length.ensures).1.1
+pub returns : goal.returns
+unfolding printed
+returns c =
+    let is = c.ended_check-finished.ensures ∙ ap (λ v. nothing_written (end_of_check v)) c.check.ensures in
+    let e = c.print_ended.ensures _ _ (finished c.args.text.now (omega arith) is) in
+    record { value = e.0; prefix_len = e.1.0; buffer_after = e.1.1 }

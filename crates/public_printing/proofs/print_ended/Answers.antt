@@ -1,15 +1,14 @@
 -- `print_ended` prints the bytes that were written, and else the last line. Assumes nothing.
-use mathlib.Core.Path.{◌≡◌, ◌∙◌}
-use native.Mathlib.Omega.{arith}
+use Rattle.std.proofs.Common.{◌≡◌, ◌∙◌, arith}
 use Rattle.spec_report.specs.Report.{report_end}
 use Rattle.report_bytes.proofs.Writes.{renamed}
 use Rattle.report_lines.specs.ReportLines.{end_bytes}
 use Rattle.public_printing.proofs.PrintedWhole.{bytes-printed, last-printed}
 use Rattle.public_printing.proofs.print_ended.Goals as goal
 
-pub returns-then-written-gt0 : goal.returns-then-written-gt0
-returns-then-written-gt0 c o before f =
-    let done = bytes-printed o f c.if-written-gt0.true in
+pub returns-then-printed-gt0 : goal.returns-then-printed-gt0
+returns-then-printed-gt0 c o before f =
+    let done = bytes-printed o f c.if-printed-gt0.true in
     let is =
     (λ i.
     record {
@@ -28,9 +27,7 @@ returns c o before f =
     ≡ report_end c.args.finished.end =
     λ i. end_bytes (c.end_number-number.ensures.0 i) (c.end_line-line.ensures i)
     in
-    let done =
-    last-printed o f (omega (arith, c.if-written-gt0.false)) (renamed _ same c.put_end-last.ensures)
-    in
+    let done = last-printed o f (omega arith) (renamed _ same c.put_end-length.ensures) in
     let is =
     (λ i.
     record {

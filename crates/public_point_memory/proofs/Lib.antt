@@ -1,2 +1,0 @@
--- The local arrays of a run of records.
-pub mod LocalArrays
