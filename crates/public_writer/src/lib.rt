@@ -14,8 +14,7 @@ pub fn write(text: &[u8], buffer: &mut [u8]) -> Ended
     ensures value { result ≡ ended_of (write_text text.now) buffer.old }
     ensures buffer_after { buffer.new ≡ left (write_text text.now) buffer.old }
 {
-    let finished = whole_written_text::write_text(text, buffer);
-    report_ending::ended_of(finished)
+    whole_written_text::write_text(text, buffer).into()
 }
 
 // Writes a text, and hands back the written part of the buffer, empty where nothing is written.
@@ -24,6 +23,5 @@ pub fn write_part<'a>(text: &[u8], buffer: &'a mut [u8]) -> &'a mut [u8]
     ensures ref_ptr_value { result.ref_ptr ≡ buffer.entry.ref_ptr }
 {
     let ended = write(text, buffer);
-    let length = ended.length;
-    &mut buffer[..length]
+    &mut buffer[..ended.length]
 }

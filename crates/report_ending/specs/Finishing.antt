@@ -1,6 +1,7 @@
 -- What an outcome is written out to, with a buffer lent, and its number and line. WrittenEnd and Ended are declared in
 -- src/lib.rt. Assumes nothing.
-use Rattle.std.specs.Prelude.{ℕ, ◌≡◌, List, length}
+use Rattle.std.specs.Prelude.{ℕ, ◌≡◌, List, length, Result, Ok, Err}
+use Rattle.spec_format.specs.declared.LineFault.{LineFault}
 use Rattle.spec_report.specs.declared.End.{End}
 use Rattle.spec_report.specs.Outcomes.{Outcome, end_with, handed, left}
 use Rattle.spec_report.specs.Report.{end_number, end_line}
@@ -16,6 +17,11 @@ pub record WrittenOut (o : Outcome) (before : List ℕ) (r : WrittenEnd) (after 
 -- A call ended so, and nothing is written.
 abbrev pub nothing_written : End → WrittenEnd
 nothing_written e = record { end = e; length = 0 }
+
+-- How a call ended that was refused where it has no end of its own: with a refusal nothing is written.
+abbrev pub finished : Result WrittenEnd LineFault → WrittenEnd
+finished (Ok w) = w
+finished (Err r) = nothing_written (End.Faulty r.fault r.line)
 
 -- How a run ended, by its number and line.
 abbrev pub ended_by : WrittenEnd → Ended

@@ -172,7 +172,5 @@ module _ {plan : Plan} {ws : List Registers} {x : Tables} (k : Kept plan ws x) w
           cells = cells_fit;
           registers = registers-fit;
           rows = λ j i. (k.ranges.rows.addr j i, (k.ranges.rows.old j i, k.ranges.rows.new j i));
-          all_stat = k.whole.stat;
-          all_store = k.whole.store;
           at_place = at_place w.place refl in-ranges.at_place;
         }

@@ -8,7 +8,6 @@ ghost use Rattle.spec_machine.specs.Status.{same_status};
 ghost use Rattle.spec_machine.specs.Steps.{same_version};
 ghost use Rattle.step_cells.specs.Effects.{Does, StaysInside};
 ghost use Rattle.step_cells.specs.Fits.{RegistersFit};
-ghost use Rattle.step_commit.specs.NextBlock.{after_store};
 
 use spec_machine::Place;
 use step_cells::{Change, Effect, Registers, Tables};
@@ -22,10 +21,11 @@ fn may_store(tables: &Tables, w: Registers) -> bool
     step_shared::same_version(tables, w) && tables.bank[usize::from(w.addr)] == u32::from(w.old)
 }
 
-// After H41: on to the next listed block, or to H42 after the last.
-fn after_store(w: Registers) -> Registers
-    requires { w.j < 255 }
-    ensures { result ≡ after_store w }
+// H41, if V = ver and the bank entry is old, it becomes new. On to the next listed block, or to H42 after the last.
+pub fn h41(tables: &Tables, w: Registers) -> Effect
+    requires { RegistersFit w × (w.j < w.numblks) }
+    ensures does { (plan : Plan) (p : ℕ) → Does Place.H41 plan tables.now p w result }
+    ensures stays_inside { StaysInside result }
 {
     let j = w.j + 1;
     let place = if j < w.numblks {
@@ -33,16 +33,7 @@ fn after_store(w: Registers) -> Registers
     } else {
         Place::H42
     };
-    Registers { place, j, ..w }
-}
-
-// H41, if V = ver and the bank entry is old, it becomes new.
-pub fn h41(tables: &Tables, w: Registers) -> Effect
-    requires { RegistersFit w × (w.j < w.numblks) }
-    ensures does { (plan : Plan) (p : ℕ) → Does Place.H41 plan tables.now p w result }
-    ensures stays_inside { StaysInside result }
-{
-    let next = after_store(w);
+    let next = Registers { place, j, ..w };
     if may_store(tables, w) {
         step_shared::doing(Change::Bank(u32::from(w.addr), u32::from(w.new)), next)
     } else {

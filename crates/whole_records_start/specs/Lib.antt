@@ -1,2 +1,2 @@
--- What the functions for a plan's text with a schedule of records promise.
-pub mod BeforeAndAfter
+-- What there is before the records run.
+pub mod Begun

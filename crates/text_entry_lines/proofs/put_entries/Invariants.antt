@@ -1,13 +1,9 @@
-use Prim.Native.Nat.{◌-◌, ◌≤◌}
-use Rattle.spec_report.specs.Report.{joined}
-use Rattle.text_lines.specs.Fills.{Fills}
-use Rattle.text_entry_lines.proofs.NotedBytes.{line_bytes}
+-- The loop's invariant: the lines of the notes so far are taken.
+use Rattle.std.proofs.Common.{take}
+use Rattle.spec_plan_text.specs.EntryLines.{entry_line_bytes}
+use Rattle.text_entry_runs.specs.Joined.{lines_noted}
 use Rattle.text_entry_lines.proofs.put_entries.Given as goal
 
-abbrev pub invariant-loop-k : goal.invariant-loop-k
-invariant-loop-k l =
-    (l.k ≤ l.n) × Fills (joined l.k (line_bytes l.notes)) l.at l.initial.buffer l.next l.buffer
-
-abbrev pub decreases-loop-k : goal.decreases-loop-k
-decreases-loop-k l =
-    l.n - l.k
+abbrev pub invariant-loop-note : goal.invariant-loop-note
+invariant-loop-note g l =
+    g.O.Output.Takes (entry_line_bytes (lines_noted (take l.note-index l.notes))) l.initial.output l.output

@@ -1,2 +1,0 @@
--- Registers on to the next listed block.
-pub mod NextBlock

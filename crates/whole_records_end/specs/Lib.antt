@@ -1,0 +1,2 @@
+-- How a schedule of records ends.
+pub mod Ending

@@ -1,2 +1,0 @@
--- The laws of a plan's text with a schedule of records.
-pub mod BeforeAndAfter
