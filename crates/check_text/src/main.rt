@@ -6,7 +6,8 @@ use program_streams::TEXT;
 use public_printing::ANSWER;
 use std::process::ExitCode;
 
-// Reads the text, checks it as a plan with its schedule and writes the answer.
+// Reads the text, checks it as a plan with its schedule and writes the answer. What the three programs share is in
+// program_streams; a helper over the printing function has no proof, since its buffer's length is a const parameter.
 fn main(rt: HostRuntime) -> ExitCode {
     let mut text = [0u8; TEXT];
     let Some(length) = program_streams::read_input(&rt, &mut text) else {

@@ -81,8 +81,8 @@ pub fn write_error<E: Print>(errors: &E, name: &[u8], error: io::Error) -> Write
     WriteError::Failed
 }
 
-// Reads until the bytes are full or the input ends, and answers how many were read, or None where a read fails, which is
-// told by the input's name. Where the input's bytes are known, those that were read are its first, and there are fewer
+// Reads until the bytes are full or the input ends, and answers how many were read, or None where a read fails, which
+// is told by the input's name. Where the input's bytes are known, those that were read are its first, and there are fewer
 // than there is room for only where it has no more.
 // The loop counts: of the library's methods `read_exact` refuses a shorter input, and `read_to_end` needs a heap.
 pub fn read_all<R: Outputs, I: Read>(
@@ -111,7 +111,7 @@ pub fn read_all<R: Outputs, I: Read>(
 
 // Writes all of the bytes. A write that fails, or takes none of them, is told by the output's name, but not where
 // nobody reads the output any more. Where it is known what the output holds, all of the bytes then stand behind it.
-// The loop counts: the library's `write_all` goes on after a signal, which is told here as a failure and may not change.
+// The loop counts: the library's `write_all` goes on after a signal, which is told here as a failure.
 pub fn write_all<O: Write, E: Print>(
     output: &mut O,
     errors: &E,

@@ -1,6 +1,6 @@
 -- What a text comes to can be printed into a buffer with room, where it runs (run-printable), where it is written
--- (write-printable) and where it is checked (check-printable): what is printed is not empty and not too long, and the line and the entry of its end are small.
--- Assumes nothing.
+-- (write-printable) and where it is checked (check-printable): what is printed is not empty and not too long, and the
+-- line and the entry of its end are small. Assumes nothing.
 use Rattle.std.proofs.Common.{◌≡◌, refl, sym, ap, subst, ◌∙◌, ℕ, ◌≤◌, ◌<◌, List, length, arith}
 use Rattle.spec_format.specs.declared.Entry.{Entry}
 use Rattle.spec_format.specs.declared.Form.{Form}

@@ -12,6 +12,7 @@ use report_ending::Ended;
 use spec_format::{Form, Verdict};
 
 // A number of the table with its line: 0 with the count of all lines, or a refusal with the line where it was met.
+// Numbers, since C gets it.
 #[repr(C)]
 #[derive(Clone, Copy, PartialEq, Eq)]
 pub struct Answer {

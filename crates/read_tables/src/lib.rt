@@ -1,5 +1,5 @@
-// A plan and the notes on entry lines, as the reading of a text fills them. Both have room for the largest text in fixed
-// memory.
+// A plan and the notes on entry lines, as the reading of a text fills them. Both have room for the largest text in
+// fixed memory.
 #![tactic(auto)]
 
 ghost use Rattle.std.specs.Prelude.{◌≡◌, ◌≤◌, ◌<◌, ◌+◌, ◌-◌, [], ◌∷◌, ◌++◌, length, get_or};
@@ -11,8 +11,8 @@ use arrayvec::ArrayVec;
 use spec_format::{Entry, Job, Move, Sizes};
 use std::marker::Model;
 
-// What is noted of an entry line: its entry, how many times it comes, and the line. A run of steps is one note, whatever
-// its n.
+// What is noted of an entry line: its entry, how many times it comes, and the line. A run of steps is one note,
+// whatever its n.
 #[derive(Clone, Copy, Default)]
 pub struct Note {
     pub entry: Entry,

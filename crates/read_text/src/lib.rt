@@ -13,7 +13,9 @@ use spec_format::{Fault, Form, LineFault, Verdict};
 // The most bytes of a text.
 const LONGEST: usize = 65536;
 
-// Where a line ends: at its line feed.
+// Where a line ends: at its line feed. Not inlined: in its caller the scan keeps all counts of what follows, and takes
+// three times as long.
+#[inline(never)]
 fn end_of(rest: &[u8]) -> Option<usize>
     ensures { result ≡ position (λ b. b == 10) rest.now }
 {
@@ -33,6 +35,7 @@ pub fn read(text: &[u8], form: Form, progress: &mut Progress) -> Verdict
         });
     }
     let mut rest = text;
+    // No `for` over parts of the text: what is left of it is what the loop keeps.
     while !rest.is_empty() {
         let Some(end) = end_of(rest) else {
             return Err(LineFault {

@@ -1,4 +1,6 @@
-// Bytes, numbers and lines written into a lent buffer from a place on, as far as it has room.
+// Bytes, numbers and lines written into a lent buffer from a place on, as far as it has room. The place stands beside
+// the buffer: a struct of both would hold the lent slice, and each contract would have to say besides that it still is
+// the same one (as that of text_outputs's Part does).
 #![tactic(auto)]
 
 ghost use Rattle.std.specs.Prelude.{[], ◌∷◌, map, ◌≤◌, ◌<◌, ◌+◌, ◌*◌, length};

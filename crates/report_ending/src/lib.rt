@@ -43,7 +43,7 @@ impl From<LineFault> for WrittenEnd {
 }
 
 // How a call ended: its number in the table with its line, and how many bytes it has written: the length of the report,
-// or of a written text, 0 where nothing is written.
+// or of a written text, 0 where nothing is written. Numbers, since C gets it.
 #[repr(C)]
 #[derive(Clone, Copy)]
 pub struct Ended {
@@ -65,7 +65,8 @@ impl From<WrittenEnd> for Ended {
     }
 }
 
-// The number of a fault in the table.
+// The number of a fault in the table. A function, and so are those of an end and of a refusal (run_judge): a From stands
+// in the crate of its type, and the crates of definitions have no code.
 pub fn fault_number(fault: Fault) -> usize
     ensures { (result ≡ number_of fault) × (result ≤ largest_number) }
 {

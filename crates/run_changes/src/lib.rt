@@ -36,6 +36,7 @@ fn reclaim(own: &mut Own, n: usize, addr: [u32; 16], old: [u32; 16])
     ensures { own.new ≡ reclaiming (λ i. get_or addr i 0) (λ i. get_or old i 0) n own.old }
 {
     let mut used = 0;
+    // By index: over the row's first places the goals stay open.
     for i in 0..n {
         if own.dirty[addr[i] as usize] == 2 {
             own.copy[used] = old[i];
@@ -60,6 +61,7 @@ pub fn published(own: &Own, n: usize, addr: [u32; 16], row: [u32; 16]) -> [u32; 
     ensures { result ≡ in_first_places (tabulate n (λ i. get_or own.now.curr (get_or addr i 0) 0)) row }
 {
     let mut out = row;
+    // By index, as in `reclaim`.
     for i in 0..n {
         out[i] = own.curr[addr[i] as usize];
     }

@@ -137,7 +137,8 @@ pub enum Refusal {
     NoneActive,
 }
 
-// What an entry comes to in a state: it calls a job with an update, a job does its next item, or it is refused.
+// What an entry comes to in a state: it calls a job with an update, a job does its next item, or it is refused. These
+// are three ways to go on, and not a value or an error.
 #[derive(Clone, Copy)]
 pub enum Judgement {
     Calls(usize, usize),

@@ -1,3 +1,3 @@
-// The definitions of texts. specs/ has bytes, numbers, lines and fields as definitions, and proofs/ what makes a field a
-// number. No code.
+// The definitions of texts. specs/ has bytes, numbers, lines and fields as definitions, and proofs/ what makes a field
+// a number. No code.
 #![tactic(auto)]

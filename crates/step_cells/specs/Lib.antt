@@ -1,5 +1,5 @@
--- The machine that the tables are, the book that is kept beside it, what an item's answer stands for, and what the items
--- ask.
+-- The machine that the tables are, the book that is kept beside it, what an item's answer stands for, and what the
+-- items ask.
 pub mod Tables
 pub mod Changed
 pub mod Book

@@ -1,5 +1,5 @@
--- The machine that the tables and the jobs' registers are. Tables, Own and Registers are declared in src/lib.rt. Assumes
--- nothing.
+-- The machine that the tables and the jobs' registers are. Tables, Own and Registers are declared in src/lib.rt.
+-- Assumes nothing.
 use Rattle.std.specs.Prelude.{ℕ, ◌≡◌, false, List, [], pos, length, get_or, replicate, None}
 use Rattle.spec_format.specs.Plan.{Plan, tabulate}
 use Rattle.spec_machine.specs.declared.Place.{Place}

@@ -104,8 +104,10 @@ impl Tables {
     }
 }
 
-// The scalars of a job's working record (spec_machine::Working): its registers. The rest of it is Own. The loop copies registers whole: in this order
-// they take 32 bytes, and of the orders that do it is among the fastest.
+// The scalars of a job's working record (spec_machine::Working): its registers. The rest of it is Own. The loop copies
+// registers whole: in this order they take 32 bytes, and of the orders that do it is among the fastest. That they fit
+// is no ghost field but a clause (Fits.RegistersFit): definitions build registers too, and each would owe a proof. The
+// same holds of the tables (Whole, CellsFit).
 #[derive(Clone, Copy)]
 pub struct Registers {
     pub word: u32,

@@ -71,7 +71,8 @@ pub fn may_decide(tables: &Tables, w: Registers) -> bool
     same_version(tables, w) && is_undecided(tables, w.hid)
 }
 
-// A job's registers at the opening.
+// A job's registers at the opening. This and what follows are functions and no methods, since the types belong to
+// step_cells.
 pub fn idle() -> Registers
     ensures { result ≡ atOpening }
 {

@@ -80,6 +80,7 @@ fn run_pack<R: Outputs>(
 ) -> Result<Tallies, Malformed> {
     let mut tallies = Tallies::default();
     let mut rest = pack;
+    // No `for`: where the next case begins is known when this one has been read.
     while !rest.is_empty() {
         let (case, after) = vectors_cases::next_case(rest).ok_or(Malformed)?;
         run_case(rt, name, case, room, &mut tallies)?;

@@ -113,7 +113,7 @@ fn ending(case: &Case) -> Option<Answer> {
 
 // Says that an answer is not the one that is wanted, where it is not.
 fn compare_answers(got: Answer, wanted: Answer) -> Result<(), Difference<'static>> {
-    if (got.number, got.line) == (wanted.number, wanted.line) {
+    if got == wanted {
         return Ok(());
     }
     Err(Difference::Answer { got, wanted })

@@ -20,7 +20,9 @@ use spec_format::Form;
 fn write_plan(plan: &Plan, notes: &mut Notes, lines: usize, buffer: &mut [u8]) -> WrittenEnd
     requires { Reads plan.now (listed_in notes.old.items) lines }
     ensures { WrittenOut
-        (written_at (end_of_run (run_of plan.now (entries_in (listed_in notes.old.items))) (line_in (listed_in notes.old.items)) lines)
+        (written_at
+        (end_of_run (run_of plan.now (entries_in (listed_in notes.old.items)))
+        (line_in (listed_in notes.old.items)) lines)
         (text_of plan.now (entries_in (listed_in notes.old.items))))
         buffer.old result buffer.new }
 {

@@ -7,7 +7,8 @@ use program_streams::TEXT;
 use public_printing::OUTPUT;
 use std::process::ExitCode;
 
-// Reads the text, has it written and writes it out.
+// Reads the text, has it written and writes it out. What the three programs share is in
+// program_streams; a helper over the printing function has no proof, since its buffer's length is a const parameter.
 fn main(rt: HostRuntime) -> ExitCode {
     let mut text = [0u8; TEXT];
     let Some(length) = program_streams::read_input(&rt, &mut text) else {
