@@ -10,7 +10,9 @@ use arrayvec::ArrayVec;
 use read_tables::{Note, Notes};
 use spec_format::Entry;
 
-// The single entries as records: the entry of each note, as many times as it comes.
+// The single entries as records: the entry of each note, as many times as it comes. Not
+// inlined, for the stack's sake.
+#[inline(never)]
 pub fn records_of(notes: &Notes) -> ArrayVec<Entry, 4000>
     requires { length (listed_in notes.now.items) ≤ 4000 }
     ensures { result.items ≡ entries_in (listed_in notes.now.items) }

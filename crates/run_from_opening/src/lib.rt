@@ -20,7 +20,8 @@ pub struct RunEnd {
     pub other: Option<usize>,
 }
 
-// The single entries of notes run, one after another.
+// The single entries of notes run, one after another. Not inlined, for the stack's sake.
+#[inline(never)]
 pub fn run_notes(plan: &Plan, notes: &Notes) -> RunEnd
     requires sound { Sound plan.now }
     requires few { length (listed_in notes.now.items) ≤ 4000 }

@@ -25,7 +25,9 @@ pub fn refused_line(notes: &Notes, halt: Option<Refusal>, accepted: usize) -> us
     }
 }
 
-// The plan and the notes of an accepted text are run. The machine's tables are made here.
+// The plan and the notes of an accepted text are run. The machine's tables are made here. Not inlined, and so are
+// records_of and run_notes: what they make is on the stack only while they run.
+#[inline(never)]
 fn run_plan(plan: &Plan, notes: &Notes, lines: usize, buffer: &mut [u8]) -> WrittenEnd
     requires { Reads plan.now (listed_in notes.now.items) lines }
     ensures { WrittenOut
