@@ -7,7 +7,8 @@ use public_printing::ANSWER;
 use std::process::ExitCode;
 
 // Reads the text, checks it as a plan with its schedule and writes the answer. What the three programs share is in
-// program_streams; a helper over the printing function has no proof, since its buffer's length is a const parameter.
+// program_streams. Tried: a helper that takes the printing function; no proof of its call closed, since the length of
+// the buffer is that function's const parameter.
 fn main(rt: HostRuntime) -> ExitCode {
     let mut text = [0u8; TEXT];
     let Some(length) = program_streams::read_input(&rt, &mut text) else {

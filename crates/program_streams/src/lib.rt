@@ -82,8 +82,8 @@ pub fn write_error<E: Print>(errors: &E, name: &[u8], error: io::Error) -> Write
 }
 
 // Reads until the bytes are full or the input ends, and answers how many were read, or None where a read fails, which
-// is told by the input's name. Where the input's bytes are known, those that were read are its first, and there are fewer
-// than there is room for only where it has no more.
+// is told by the input's name. Where the input's bytes are known, those that were read are its first, and there are
+// fewer than there is room for only where it has no more.
 // The loop counts: of the library's methods `read_exact` refuses a shorter input, and `read_to_end` needs a heap.
 pub fn read_all<R: Outputs, I: Read>(
     rt: &R,

@@ -23,7 +23,7 @@ pub const OUTPUT: usize = 80000;
 pub const ANSWER: usize = 16;
 
 // What a text came to: its number in the table with its line, the number of the entry that is refused, from 1, or 0
-// where none is, and how many bytes of the buffer are to be printed.
+// where none is, and how many bytes of the buffer are to be printed. Public: its numbers stay numbers.
 #[derive(Clone, Copy)]
 pub struct Printed {
     pub number: u32,

@@ -20,7 +20,7 @@ pub struct Answer {
     pub line: usize,
 }
 
-// A verdict by its number and line.
+// A verdict by its number and line. The function of that use is public and keeps its name.
 impl From<Verdict> for Answer {
     ghost from_gives = { λ verdict r. r ≡ answer_of verdict };
 

@@ -35,7 +35,8 @@ pub fn read(text: &[u8], form: Form, progress: &mut Progress) -> Verdict
         });
     }
     let mut rest = text;
-    // No `for` over parts of the text: what is left of it is what the loop keeps.
+    // No `for` over `split_inclusive`, which is no plainer: its part would be looked through a second time for its end,
+    // since a last line without one is refused.
     while !rest.is_empty() {
         let Some(end) = end_of(rest) else {
             return Err(LineFault {

@@ -71,7 +71,8 @@ pub fn put_fields(buffer: &mut [u8], at: usize, numbers: &[u32]) -> usize
     put_byte(buffer, next, b'\n')
 }
 
-// A line: its first field, and numbers.
+// A line: its first field, and numbers. That of text_lines fills a part of known length from its end; of the report's
+// lines no length is known before they are written.
 pub fn put_line(buffer: &mut [u8], at: usize, first: &[u8], numbers: &[u32]) -> usize
     requires { at + (length first.now + (11 * length numbers.now + 1)) ≤ 4294967296 }
     ensures { Writes (line_of first.now numbers.now)

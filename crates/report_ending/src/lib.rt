@@ -65,8 +65,8 @@ impl From<WrittenEnd> for Ended {
     }
 }
 
-// The number of a fault in the table. A function, and so are those of an end and of a refusal (run_judge): a From stands
-// in the crate of its type, and the crates of definitions have no code.
+// The number of a fault in the table. A function, and so are those of an end and of a refusal (run_judge): a From would
+// stand in the crate of its type, and it is a rule that the crates of definitions have no code, past a default.
 pub fn fault_number(fault: Fault) -> usize
     ensures { (result ≡ number_of fault) × (result ≤ largest_number) }
 {

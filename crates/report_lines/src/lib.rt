@@ -64,6 +64,7 @@ pub fn put_blocks(buffer: &mut [u8], at: usize, plan: &Plan, tables: &Tables) ->
 {
     let sizes = plan.sizes();
     let mut next = at;
+    // By number: of the table's places the first B are the plan's blocks, and the definition counts them.
     for b in 0..sizes.blocks {
         let number = tables.bank[b] as usize;
         next = put_block(buffer, next, sizes.words, number, &tables.store);
@@ -102,6 +103,7 @@ pub fn put_opens(buffer: &mut [u8], at: usize, plan: &Plan, tables: &Tables) -> 
         buffer.old result buffer.new }
 {
     let mut next = at;
+    // By number, which is printed, and a place in two tables.
     for k in 0..plan.sizes().jobs {
         if tables.book.active[k] {
             next = put_open(buffer, next, k, tables.stat[k]);

@@ -1,5 +1,6 @@
 // The single entries of notes run from the opening on, where only how the run ends is wanted. The machine's tables and
 // the records are made here, and are gone when the run has ended.
+// `Sound` stands in clauses: a type of sound plans would be one more around the lent plan, for this one word.
 #![tactic(auto)]
 
 ghost use Rattle.std.specs.Prelude.{◌≤◌, length};

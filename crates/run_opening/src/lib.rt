@@ -1,4 +1,5 @@
 // The machine's opening: its tables, with the opening memory put into the store.
+// `Sound` stands in clauses: a type of sound plans would be one more around the lent plan, for this one word.
 #![tactic(auto)]
 
 ghost use Rattle.std.specs.Prelude.{◌≡◌, ◌≤◌, ◌+◌, ◌*◌};
@@ -39,6 +40,7 @@ fn open_own(own: &mut [Own; 16], copies: usize)
     requires { copies ≤ 8 }
     ensures { own.new ≡ tabulate 16 (λ p. own_opened (p * copies)) }
 {
+    // By number: with `iter_mut().enumerate()`, as for the rows, one goal of the loop did not close.
     for p in 0..16 {
         own[p] = own_opened(p * copies);
     }

@@ -47,6 +47,7 @@ fn fill_decimal(part: &mut [u8], n: u32) -> usize
     ensures part_after { part.new ≡ take result part.old ++ decimal n }
 {
     let mut rest = n;
+    // By place, since the place is the answer.
     for at in (0..part.len()).rev() {
         part[at] = b'0' + (rest % 10) as u8;
         rest /= 10;

@@ -1,4 +1,5 @@
 // The lines of a plan but for its updates, to any output.
+// `Sound` stands in clauses: a type of sound plans would be one more around the lent plan, for this one word.
 #![tactic(auto)]
 
 ghost use Rattle.std.specs.Prelude.{◌≡◌, [], ◌∷◌, ◌≤◌, ◌<◌, length};
@@ -60,6 +61,7 @@ fn put_blocks<O: Output>(plan: &Plan, output: &mut O)
     requires { Sound plan.now }
     ensures { O.Takes (opening_block_lines plan.now) output.old output.new }
 {
+    // By number, as the definition has them: with chunks of the words it were still to be shown that there are B.
     for b in 0..plan.sizes().blocks {
         output.line(b"block", opening_words(plan, b));
     }

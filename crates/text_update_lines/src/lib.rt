@@ -1,4 +1,5 @@
 // The lines of the updates of a plan and of their moves, to any output.
+// `Sound` stands in clauses: a type of sound plans would be one more around the lent plan, for this one word.
 #![tactic(auto)]
 
 ghost use Rattle.std.specs.Prelude.{[], ◌<◌, length, get_or};

@@ -1,4 +1,5 @@
 // The one text of a plan and single entries: counted, and written into a lent buffer where there is room for all of it.
+// `Sound` stands in clauses: a type of sound plans would be one more around the lent plan, for this one word.
 #![tactic(auto)]
 
 ghost use Rattle.std.specs.Prelude.{◌≤◌, ◌≡◌, length, min};
