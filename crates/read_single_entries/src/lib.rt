@@ -10,20 +10,18 @@ use arrayvec::ArrayVec;
 use read_tables::{Note, Notes};
 use spec_format::Entry;
 
-// The single entries as records: the entry of each note, as many times as it comes. Not
-// inlined, for the stack's sake.
-#[inline(never)]
-pub fn records_of(notes: &Notes) -> ArrayVec<Entry, 4000>
+// The single entries as records, in the place of those that were there: the entry of each note, as many times as it
+// comes. The records are lent, so that they stand on the stack once.
+pub fn records_of(notes: &Notes, records: &mut ArrayVec<Entry, 4000>)
     requires { length (listed_in notes.now.items) ≤ 4000 }
-    ensures { result.items ≡ entries_in (listed_in notes.now.items) }
+    ensures { records.new.items ≡ entries_in (listed_in notes.now.items) }
 {
-    let mut records = ArrayVec::new();
+    records.clear();
     for &Note { entry, times, .. } in notes.as_slice() {
         for _ in 0..times {
             records.push(entry);
         }
     }
-    records
 }
 
 // The line of single entry i, from 0; 0 where there is none.

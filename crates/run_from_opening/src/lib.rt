@@ -9,8 +9,10 @@ ghost use Rattle.spec_format.specs.Sound.{Sound};
 ghost use Rattle.read_tables.specs.Notes.{listed_in};
 ghost use Rattle.run_from_opening.specs.Ends.{Ends};
 
+use arrayvec::ArrayVec;
 use read_tables::{Notes, Plan};
 use spec_machine::Refusal;
+use step_cells::Tables;
 
 // How a run ended: the refusal that stopped it, if one did, how many entries were accepted, and the place of the first
 // record of another kind.
@@ -28,8 +30,10 @@ pub fn run_notes(plan: &Plan, notes: &Notes) -> RunEnd
     requires few { length (listed_in notes.now.items) ≤ 4000 }
     ensures { Ends plan.now (entries_in (listed_in notes.now.items)) result }
 {
-    let records = read_single_entries::records_of(notes);
-    let mut tables = run_opening::open(plan);
+    let mut records = ArrayVec::new();
+    read_single_entries::records_of(notes, &mut records);
+    let mut tables = Tables::blank();
+    run_opening::open(plan, &mut tables);
     run_loop::run_records(records.as_slice(), plan, &mut tables);
     RunEnd {
         halt: tables.book.halt,

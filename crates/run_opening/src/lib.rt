@@ -47,10 +47,10 @@ fn open_own(own: &mut [Own; 16], copies: usize)
 }
 
 // "V is (0, false); every announcement Ann is N; every status is N, and Stat[N] is N always; Bank[k] is NC + k": blank
-// tables filled as at the opening of a plan, with the opening memory behind the copy blocks. Apart from `open`, so
-// that the tables stand on the stack once, in the caller of `open`, and are not copied there.
+// tables filled as at the opening of a plan, with the opening memory behind the copy blocks. No job runs on any card.
+// The tables are lent, so that they stand on the stack once.
 #[inline(never)]
-fn fill(plan: &Plan, tables: &mut Tables)
+pub fn open(plan: &Plan, tables: &mut Tables)
     requires sound { Sound plan.now }
     requires blank { tables.old ≡ blank_tables }
     ensures { Opened plan.now tables.new }
@@ -65,15 +65,4 @@ fn fill(plan: &Plan, tables: &mut Tables)
     open_bank(&mut tables.bank, behind_copies);
     open_own(&mut tables.own, sizes.copies);
     tables.store[start..start + memory.len()].copy_from_slice(memory);
-}
-
-// The tables of a plan at its opening. No job runs on any card.
-#[inline]
-pub fn open(plan: &Plan) -> Tables
-    requires { Sound plan.now }
-    ensures { Opened plan.now result }
-{
-    let mut tables = Tables::blank();
-    fill(plan, &mut tables);
-    tables
 }

@@ -8,6 +8,7 @@ ghost use Rattle.read_tables.specs.Notes.{listed_in};
 ghost use Rattle.text_entry_runs.specs.Joined.{lines_noted, goes_on, Joined};
 ghost use Rattle.text_entry_runs.specs.Behind.{add_last, StepsAtMost};
 
+use arrayvec::ArrayVec;
 use read_tables::{Note, Notes};
 use spec_format::Entry;
 
@@ -54,6 +55,7 @@ pub fn join_notes(notes: &mut Notes)
     requires { length (listed_in notes.old.items) ≤ 4000 }
     ensures { Joined (entries_in (listed_in notes.old.items)) notes.new.items }
 {
-    let records = read_single_entries::records_of(notes);
+    let mut records = ArrayVec::new();
+    read_single_entries::records_of(notes, &mut records);
     join(records.as_slice(), notes);
 }

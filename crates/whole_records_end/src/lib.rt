@@ -10,6 +10,7 @@ use report_ending::WrittenEnd;
 use spec_format::{Entry, Fault, LineFault};
 use spec_machine::Refusal;
 use spec_report::End;
+use step_cells::Tables;
 
 // How a schedule ends when so many records have run: refused where a record is of another kind, the first at this
 // place, and else as the run ended, whose next record has this place.
@@ -35,7 +36,8 @@ fn run_unrefused(text: &[u8], records: &[Entry], buffer: &mut [u8]) -> Result<Wr
     ensures { WrittenOut (run_schedule text.now records.now) buffer.old (finished result) buffer.new }
 {
     let plan = whole_records_start::begin(text, records)?;
-    let mut tables = run_opening::open(&plan);
+    let mut tables = Tables::blank();
+    run_opening::open(&plan, &mut tables);
     run_loop::run_records(records, &plan, &mut tables);
     let place = tables.book.entries as usize + 1;
     let end = end_of_records(tables.book.halt, place, tables.book.other, records.len())?;

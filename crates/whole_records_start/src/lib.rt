@@ -12,7 +12,8 @@ use read_tables::Plan;
 use spec_format::{Entry, Fault, Form, LineFault};
 
 // What comes before the records run: the plan's text is read, and the records are counted. What is read beside the plan
-// is gone then.
+// is gone then. Not inlined, for the stack's sake.
+#[inline(never)]
 #[tactic(auto, unfolding(spec_report::specs::Outcomes::run_schedule))]
 pub fn begin(text: &[u8], records: &[Entry]) -> Result<Plan, LineFault>
     ensures { MatchResult result (Begun text.now records.now)

@@ -8,11 +8,13 @@ ghost use Rattle.read_tables.specs.Notes.{listed_in};
 ghost use Rattle.report_ending.specs.Finishing.{WrittenOut};
 ghost use Rattle.whole_text.specs.Reads.{Reads};
 
+use arrayvec::ArrayVec;
 use read_line_promises::Progress;
 use read_tables::{Notes, Plan};
 use report_ending::WrittenEnd;
 use spec_format::Form;
 use spec_machine::Refusal;
+use step_cells::Tables;
 
 // The line of the entry that has stopped a run behind so many accepted ones; 0 where none has, and then the notes are
 // not looked through.
@@ -26,7 +28,7 @@ pub fn refused_line(notes: &Notes, halt: Option<Refusal>, accepted: usize) -> us
 }
 
 // The plan and the notes of an accepted text are run. The machine's tables are made here. Not inlined, and so are
-// records_of and run_notes: what they make is on the stack only while they run.
+// run_notes: what they make is on the stack only while they run.
 #[inline(never)]
 fn run_plan(plan: &Plan, notes: &Notes, lines: usize, buffer: &mut [u8]) -> WrittenEnd
     requires { Reads plan.now (listed_in notes.now.items) lines }
@@ -34,8 +36,10 @@ fn run_plan(plan: &Plan, notes: &Notes, lines: usize, buffer: &mut [u8]) -> Writ
         (run_outcome plan.now (entries_in (listed_in notes.now.items)) (line_in (listed_in notes.now.items)) lines)
         buffer.old result buffer.new }
 {
-    let mut tables = run_opening::open(plan);
-    let records = read_single_entries::records_of(notes);
+    let mut tables = Tables::blank();
+    run_opening::open(plan, &mut tables);
+    let mut records = ArrayVec::new();
+    read_single_entries::records_of(notes, &mut records);
     run_loop::run_records(records.as_slice(), plan, &mut tables);
     let halt = tables.book.halt;
     let accepted = tables.book.entries as usize;

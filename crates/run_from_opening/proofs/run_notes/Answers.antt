@@ -12,14 +12,14 @@ use Rattle.run_from_opening.proofs.run_notes.Goals as goal
 
 pub run_records-requires : goal.run_records-requires
 run_records-requires c =
-    λ some. opened-starts c.requires.sound c.open-tables.ensures c.as_slice.result.now (omega arith)
+    λ some. opened-starts c.requires.sound c.open.ensures c.as_slice.result.now (omega arith)
 
 pub returns : goal.returns
 returns c =
     let es = c.as_slice.result.now in
     let are : es ≡ entries_in (listed_in c.args.notes.now.items)
-    = c.as_slice.ensures.value ∙ c.records_of-records.ensures in
-    let ran = (c.run_records.ensures (opened-starts c.requires.sound c.open-tables.ensures es (omega arith))).1 in
+    = c.as_slice.ensures.value ∙ c.records_of.ensures in
+    let ran = (c.run_records.ensures (opened-starts c.requires.sound c.open.ensures es (omega arith))).1 in
     let end : RunEnd =
     record {
       halt = c.run_records.new.tables.book.halt;

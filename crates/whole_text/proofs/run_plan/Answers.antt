@@ -4,19 +4,19 @@ use Rattle.report_ending.proofs.WrittenOut.{same_outcome}
 use Rattle.whole_text.proofs.AcceptedText.{sound-plan, few-listed, starts, low-line, to-report, the-run, line_told}
 use Rattle.whole_text.proofs.run_plan.Goals as goal
 
-pub open-tables-requires : goal.open-tables-requires
-open-tables-requires c = sound-plan c.requires
+pub open-requires : goal.open-requires
+open-requires c = sound-plan c.requires
 
-pub records_of-records-requires : goal.records_of-records-requires
-records_of-records-requires c = few-listed c.requires
+pub records_of-requires : goal.records_of-requires
+records_of-requires c = few-listed c.requires
 
 pub run_records-requires : goal.run_records-requires
-run_records-requires c = λ some. rw (c.as_slice.ensures.value, c.records_of-records.ensures) (starts c.requires c.open-tables.ensures)
+run_records-requires c = λ some. rw (c.as_slice.ensures.value, c.records_of.ensures) (starts c.requires c.open.ensures)
 
 pub finish-requires-clause-reportable : goal.finish-requires-clause-reportable
 finish-requires-clause-reportable c =
-    let e = c.as_slice.ensures.value ∙ c.records_of-records.ensures in
-    to-report c.requires (rw e at c.run_records.ensures (starts c.requires c.open-tables.ensures))
+    let e = c.as_slice.ensures.value ∙ c.records_of.ensures in
+    to-report c.requires (rw e at c.run_records.ensures (starts c.requires c.open.ensures))
 
 pub finish-requires-clause-end_bound : goal.finish-requires-clause-end_bound
 finish-requires-clause-end_bound c =
@@ -26,6 +26,6 @@ finish-requires-clause-end_bound c =
 pub returns : goal.returns
 returns c =
     let e = c.end_of-end.ensures ∙ line_told _ _ _ _ _ c.refused_line-line.ensures in
-    let is = c.as_slice.ensures.value ∙ c.records_of-records.ensures in
-    let ran = rw is at c.run_records.ensures (starts c.requires c.open-tables.ensures) in
+    let is = c.as_slice.ensures.value ∙ c.records_of.ensures in
+    let ran = rw is at c.run_records.ensures (starts c.requires c.open.ensures) in
     same_outcome (the-run c.requires ran) (rw e at c.finish.ensures)

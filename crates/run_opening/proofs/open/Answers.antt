@@ -1,11 +1,11 @@
--- `fill` fills blank tables. Assumes nothing.
+-- `open` fills blank tables. Assumes nothing.
 use Rattle.std.proofs.Common.{◌≡◌, refl, ◌∙◌, ap, ◌+◌, ◌-◌, ◌*◌, arith, length, replicate, pos, to_z, w32}
 use Rattle.std.proofs.lemmas.Int.{to_z_pos}
 use Rattle.std.proofs.lemmas.Slice.{put_mid-paste}
 use borrow.Rule.Slice.PartMut.{put_mid}
 use Rattle.spec_machine.specs.Machine.{opening_store}
 use Rattle.run_opening.proofs.OpenedTables.{opened}
-use Rattle.run_opening.proofs.fill.Goals as goal
+use Rattle.run_opening.proofs.open.Goals as goal
 
 pub returns : goal.returns
 returns c =
