@@ -1,8 +1,8 @@
 // The lines `update n`, `copy d a`, `set d k` and `add d a k`.
 #![tactic(auto)]
 
-ghost use Rattle.std.specs.Prelude.{◌≡◌, ◌≤◌, ◌<◌, ◌-◌, [], length, get_or, option_map};
-ghost use Rattle.spec_format.specs.Plan.{named};
+ghost use Rattle.std.specs.Prelude.{◌≡◌, ◌≤◌, ◌<◌, ◌-◌, ◌++◌, ◌∷◌, [], length, get_or, option_map};
+ghost use Rattle.spec_format.specs.Plan.{named, blocks_written};
 ghost use Rattle.spec_format.specs.ParsedLines.{update, move};
 ghost use Rattle.spec_format.specs.Faults.{last_of, some_from};
 ghost use Rattle.read_line_promises.specs.Promises.{LineStep};
@@ -65,6 +65,17 @@ fn last_moves(plan: &Plan) -> &[Move]
     plan.moves(plan.updates() - 1)
 }
 
+// How many blocks of this size the moves and one more write, where they write `blocks` of them without it.
+#[tactic(auto, using(read_written_blocks::proofs::WrittenBlocks::counted_more))]
+fn written_with(moves: &[Move], m: Move, size: usize, blocks: usize) -> usize
+    requires some_words { 0 < size }
+    requires counted { blocks ≡ length (blocks_written size moves.now) }
+    requires few { blocks ≤ 8 }
+    ensures { result ≡ length (blocks_written size (moves.now ++ m ∷ [])) }
+{
+    blocks_with(moves, m, size, blocks)
+}
+
 // The line of a move: it is judged, and put behind the moves of the last update.
 #[tactic(auto, using(crate::proofs::Updates::last_more, crate::proofs::Updates::length_more))]
 pub fn move_line(m: Option<Move>, progress: &mut Progress) -> Result<(), LineFault>
@@ -94,7 +105,7 @@ pub fn move_line(m: Option<Move>, progress: &mut Progress) -> Result<(), LineFau
             line: number,
         });
     }
-    let blocks = blocks_with(moves, m, sizes.words, progress.written);
+    let blocks = written_with(moves, m, sizes.words, progress.written);
     if sizes.copies < blocks {
         return Err(LineFault {
             fault: Fault::TooManyBlocks,

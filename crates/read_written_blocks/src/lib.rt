@@ -1,9 +1,9 @@
 // How many blocks an update writes, and how many words the memory has.
 #![tactic(auto)]
 
-ghost use Rattle.std.specs.Prelude.{◌≡◌, ◌≤◌, ◌<◌, ◌*◌, ◌++◌, ◌∷◌, [], ◌==◌, length};
+ghost use Rattle.std.specs.Prelude.{◌≡◌, cond, ◌≤◌, ◌<◌, ◌+◌, ◌*◌, ◌==◌};
 ghost use Rattle.std.specs.List.{list_any};
-ghost use Rattle.spec_format.specs.Plan.{block_of, blocks_written, target};
+ghost use Rattle.spec_format.specs.Plan.{block_of, target};
 
 use read_tables::target_of;
 use spec_format::{Move, Sizes};
@@ -17,13 +17,12 @@ fn writes_block(moves: &[Move], m: Move, size: usize) -> bool
     moves.iter().any(|n| target_of(*n) as usize / size == block)
 }
 
-// How many blocks of this size the moves and one more write, where they write `blocks` of them without it.
-#[tactic(auto, using(crate::proofs::WrittenBlocks::counted_more))]
+// A count of blocks of this size with one more move: one block more, unless one of the moves writes the block of m.
 pub fn blocks_with(moves: &[Move], m: Move, size: usize, blocks: usize) -> usize
     requires some_words { 0 < size }
-    requires counted { blocks ≡ length (blocks_written size moves.now) }
     requires few { blocks ≤ 8 }
-    ensures { result ≡ length (blocks_written size (moves.now ++ m ∷ [])) }
+    ensures { result
+        ≡ cond (list_any (λ n. block_of size (target n) == block_of size (target m)) moves.now) blocks (blocks + 1) }
 {
     if writes_block(moves, m, size) {
         return blocks;
