@@ -10,11 +10,33 @@ use public_printing::{OUTPUT, Printed};
 use public_reference::Answer;
 use report_ending::Ended;
 use spec_format::Form;
-use std::{fmt, io};
+use std::fmt;
+use std::fmt::Write;
 use vectors_cases::{Case, Kind};
 
 // What every byte of the buffer is before a run.
 const MARKER: u8 = 170;
+
+// Standard output, which takes text piece by piece: of a `write!` the parts of its literal, and what fills each hole.
+// A piece that cannot be written is told, as `write_output` does it, and those behind it are written all the same.
+#[derive(Drop)]
+struct Output<'a, R> {
+    rt: &'a R,
+}
+
+impl<'a, R: Outputs> Output<'a, R> {
+    // Writes bytes.
+    fn write_bytes(&self, bytes: &[u8]) {
+        let _ = program_streams::write_output(self.rt, bytes);
+    }
+}
+
+impl<'a, R: Outputs> Write for Output<'a, R> {
+    fn write_str(&mut self, s: &str) -> fmt::Result {
+        self.write_bytes(s.as_bytes());
+        Ok(())
+    }
+}
 
 // How many cases of a kind were tried, and how many of them agree.
 #[derive(Clone, Copy, Default)]
@@ -52,7 +74,8 @@ pub struct Tallies {
 impl Tallies {
     // Writes how many cases of a pack agree. Of schedules and of what is written it does where the pack has any.
     pub fn print<R: Outputs>(&self, rt: &R, pack: &str) {
-        tell_failed(rt, println!(rt; "{pack}: {self}"));
+        let mut output = Output { rt };
+        let _ = write!(output, "{pack}: {self}\n");
     }
 }
 
@@ -119,16 +142,10 @@ fn compare_answers(got: Answer, wanted: Answer) -> Result<(), Difference<'static
     Err(Difference::Answer { got, wanted })
 }
 
-// Writes a line for a failed write to standard output, but not where nobody reads it any more.
-fn tell_failed<R: Outputs>(rt: &R, written: io::Result<()>) {
-    if let Err(error) = written {
-        program_streams::write_error(&rt.errors(), b"standard output", error);
-    }
-}
-
 // Writes that a pack cannot be read.
 pub fn print_malformed<R: Outputs>(rt: &R, pack: &str) {
-    tell_failed(rt, println!(rt; "{pack}: malformed"));
+    let mut output = Output { rt };
+    let _ = write!(output, "{pack}: malformed\n");
 }
 
 impl<'a> Trial<'a> {
@@ -151,25 +168,27 @@ impl<'a> Trial<'a> {
     }
 
     // Writes the names of the pack and of the case, what was done with it, and the difference.
-    fn print<R: Outputs>(&self, rt: &R, way: &str, difference: Difference) -> io::Result<()> {
+    fn print<R: Outputs>(&self, rt: &R, way: &str, difference: Difference) {
+        let mut output = Output { rt };
         let pack = self.pack;
-        print!(rt; "{pack}: ")?;
-        rt.write_all(self.case.name)?;
-        print!(rt; ": {way}: ")?;
+        let _ = write!(output, "{pack}: ");
+        output.write_bytes(self.case.name);
+        let _ = write!(output, ": {way}: ");
         match difference {
             Difference::Answer { got, wanted } => {
-                println!(rt;
-                    "got {} {}, wanted {} {}",
+                let _ = write!(
+                    output,
+                    "got {} {}, wanted {} {}\n",
                     got.number, got.line, wanted.number, wanted.line
-                )
+                );
             }
-            Difference::PastTheEnd => println!(rt; "bytes past the end were written"),
+            Difference::PastTheEnd => output.write_bytes(b"bytes past the end were written\n"),
             Difference::Line { got, wanted } => {
-                print!(rt; "got ")?;
-                rt.write_all(got)?;
-                print!(rt; ", wanted ")?;
-                rt.write_all(wanted)?;
-                println!(rt; "")
+                output.write_bytes(b"got ");
+                output.write_bytes(got);
+                output.write_bytes(b", wanted ");
+                output.write_bytes(wanted);
+                output.write_bytes(b"\n");
             }
         }
     }
@@ -179,7 +198,7 @@ impl<'a> Trial<'a> {
         match compared {
             Ok(()) => true,
             Err(difference) => {
-                tell_failed(rt, self.print(rt, way, difference));
+                self.print(rt, way, difference);
                 false
             }
         }
