@@ -12,7 +12,7 @@ ghost use Rattle.step_cells.specs.Effects.{marking, unmarked, reclaiming};
 
 use step_cells::{Commit, Own, Tables};
 
-// A job's block b is marked, and has this number in this run. The mark is the definitions' number (step_cells: Own).
+// A job's block b is marked, and has this number in this run.
 pub fn mark(own: &mut Own, b: u32, mark: u32, number: u32)
     requires { b < 16 }
     ensures { own.new ≡ marking b mark number own.old }

@@ -61,7 +61,7 @@ fn judge(plan: &Plan, tables: &Tables, e: Entry) -> Judgement
     }
 }
 
-// The number of a refusal in the table. No From: it is a rule that the crates of definitions have no code.
+// The number of a refusal in the table. No From, since the crates of definitions have no code.
 pub fn refusal_number(refusal: Refusal) -> u32
     ensures value { result ≡ refusal_number refusal }
     ensures most { result ≤ 15 }

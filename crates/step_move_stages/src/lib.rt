@@ -1,6 +1,6 @@
 // The stages of a move that check, list and take, and one stage by its name. A read has check, list and take; a write
 // has check, list, copy and write. Each function is the stage of its name.
-#![tactic(auto, unfolding(step_cells::specs::Effects::Does, spec_machine::specs::Steps::item, spec_machine::specs::Steps::stage))]
+#![tactic(auto, unfolding(step_cells::specs::Effects::Does, spec_machine::specs::Steps::item, spec_machine::specs::Steps::stage,))]
 
 ghost use Rattle.std.specs.Prelude.{◌≡◌, ℕ, ◌+◌, ◌*◌, ◌≤◌, ◌<◌};
 ghost use Rattle.spec_format.specs.Plan.{Plan};

@@ -1,5 +1,5 @@
 // The stages of a move that copy a block and write a word. Each function is the stage of its name.
-#![tactic(auto, unfolding(step_cells::specs::Effects::Does, spec_machine::specs::Steps::item, spec_machine::specs::Steps::stage))]
+#![tactic(auto, unfolding(step_cells::specs::Effects::Does, spec_machine::specs::Steps::item, spec_machine::specs::Steps::stage,))]
 
 ghost use Rattle.step_cells.specs.Effects.{Does, StaysInside};
 ghost use Rattle.step_cells.specs.Fits.{RoomToCopy};

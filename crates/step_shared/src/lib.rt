@@ -71,8 +71,8 @@ pub fn may_decide(tables: &Tables, w: Registers) -> bool
     same_version(tables, w) && is_undecided(tables, w.hid)
 }
 
-// A job's registers at the opening. This and what follows are functions: as methods they are no plainer, since the
-// definitions have functions of the same names.
+// A job's registers at the opening. This and what follows are functions and no methods, since the types belong to
+// step_cells.
 pub fn idle() -> Registers
     ensures { result ≡ atOpening }
 {

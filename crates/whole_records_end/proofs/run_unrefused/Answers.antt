@@ -9,8 +9,8 @@ returns-in_err-plan c =
     let p = err_from_is_err_and c.from_residual.result c.from_residual.ensures.1 in
     rw (p.1, p.2) (refused-out _ _ c.in_err-plan.ensures)
 
-pub open-requires : goal.open-requires
-open-requires c = sound c.in_ok-plan.ensures
+pub open-requires-clause-sound : goal.open-requires-clause-sound
+open-requires-clause-sound c = sound c.in_ok-plan.ensures
 
 pub run_records-requires : goal.run_records-requires
 run_records-requires c = λ some. starts c.in_ok-plan.ensures c.open.ensures

@@ -4,8 +4,8 @@ use Rattle.report_ending.proofs.WrittenOut.{same_outcome}
 use Rattle.whole_text.proofs.AcceptedText.{sound-plan, few-listed, starts, low-line, to-report, the-run, line_told}
 use Rattle.whole_text.proofs.run_plan.Goals as goal
 
-pub open-requires : goal.open-requires
-open-requires c = sound-plan c.requires
+pub open-requires-clause-sound : goal.open-requires-clause-sound
+open-requires-clause-sound c = sound-plan c.requires
 
 pub records_of-requires : goal.records_of-requires
 records_of-requires c = few-listed c.requires
