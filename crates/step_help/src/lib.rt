@@ -33,6 +33,7 @@ pub fn h16(plan: &Plan, tables: &Tables, p: usize, w: Registers) -> Effect
 pub fn h17(plan: &Plan, tables: &Tables, p: usize, w: Registers) -> Effect
     requires { PlanFits plan.now p × RegistersFit w }
     ensures does { Does Place.H17 plan.now tables.now p w result }
+    ensures parts { (x : Tables) → x.stat ≡ tables.now.stat → Does Place.H17 plan.now x p w result }
     ensures stays_inside { StaysInside result }
 {
     let place = if step_shared::is_finished(plan, tables, w.hid) {
@@ -89,8 +90,12 @@ pub fn h22(w: Registers) -> Effect
 pub fn h25(tables: &Tables, w: Registers) -> Effect
     requires { RegistersFit w }
     ensures does { (plan : Plan) (p : ℕ) → Does Place.H25 plan tables.now p w result }
+    ensures parts { (plan : Plan) (x : Tables) (p : ℕ) → x.v ≡ tables.now.v → x.stat ≡ tables.now.stat
+        → Does Place.H25 plan x p w result }
     ensures change_inside { ChangeInside result.registers result.change }
     ensures room { (p : ℕ) → Reclaims tables.now p w → Room tables.now p result.change }
+    ensures room_in_parts { (x : Tables) (p : ℕ) → x.v ≡ tables.now.v → x.stat ≡ tables.now.stat
+        → Reclaims x p w → Room x p result.change }
 {
     let next = step_shared::go_to(w, Place::H32);
     if step_shared::may_decide(tables, w) {

@@ -7,6 +7,7 @@ ghost use Rattle.spec_format.specs.Plan.{Plan};
 ghost use Rattle.spec_machine.specs.Machine.{in_row};
 ghost use Rattle.spec_machine.specs.Ranges.{Names, most_numbers};
 ghost use Rattle.spec_machine.specs.Status.{job_named};
+ghost use Rattle.step_cells.specs.declared.Tables.{Tables};
 ghost use Rattle.step_cells.specs.Effects.{Does, StaysInside};
 ghost use Rattle.step_cells.specs.Fits.{PlanFits, CellsFit, RegistersFit};
 ghost use Rattle.step_row.specs.Rows.{at_line};
@@ -19,6 +20,7 @@ use step_cells::{Effect, Registers, Tables};
 pub fn h32(plan: &Plan, tables: &Tables, p: usize, w: Registers) -> Effect
     requires { PlanFits plan.now p × RegistersFit w }
     ensures does { Does Place.H32 plan.now tables.now p w result }
+    ensures parts { (x : Tables) → x.stat ≡ tables.now.stat → Does Place.H32 plan.now x p w result }
     ensures stays_inside { StaysInside result }
 {
     let wid = step_shared::status_of(&tables.stat, w.hid);
@@ -72,6 +74,7 @@ pub fn h36(tables: &Tables, w: Registers) -> Effect
 pub fn h37(plan: &Plan, tables: &Tables, p: usize, w: Registers) -> Effect
     requires { PlanFits plan.now p × RegistersFit w }
     ensures does { Does Place.H37 plan.now tables.now p w result }
+    ensures parts { (x : Tables) → x.stat ≡ tables.now.stat → Does Place.H37 plan.now x p w result }
     ensures stays_inside { StaysInside result }
 {
     let place = if step_shared::is_finished(plan, tables, w.hid) {
@@ -103,6 +106,8 @@ pub fn h38(tables: &Tables, w: Registers) -> Effect
     requires rows { (k i : ℕ) → (in_row tables.now.rows.addr k i < 16)
         × ((in_row tables.now.rows.old k i < most_numbers) × (in_row tables.now.rows.new k i < most_numbers)) }
     ensures does { (plan : Plan) (p : ℕ) → Does Place.H38 plan tables.now p w result }
+    ensures parts { (plan : Plan) (x : Tables) (p : ℕ) → x.rows ≡ tables.now.rows
+        → Does Place.H38 plan x p w result }
     ensures stays_inside { StaysInside result }
 {
     let wid = job_named(w.wid);
