@@ -5,6 +5,7 @@
 ghost use Rattle.std.specs.Prelude.{◌≡◌, ◌≤◌, ◌+◌, ◌*◌};
 ghost use Rattle.spec_format.specs.Plan.{tabulate};
 ghost use Rattle.spec_format.specs.Sound.{Sound};
+ghost use Rattle.step_cells.specs.Changed.{with_stat};
 ghost use Rattle.step_cells.specs.Tables.{blank_tables};
 ghost use Rattle.run_opening.specs.Opened.{own_opened, Opened};
 
@@ -47,12 +48,12 @@ fn open_own(own: &mut [Own; 16], copies: usize)
 }
 
 // "V is (0, false); every announcement Ann is N; every status is N, and Stat[N] is N always; Bank[k] is NC + k": blank
-// tables filled as at the opening of a plan, with the opening memory behind the copy blocks. No job runs on any card.
-// The tables are lent, so that they stand on the stack once.
+// tables, whatever their statuses, filled as at the opening of a plan, with the opening memory behind the copy blocks.
+// No job runs on any card. The tables are lent, so that they stand on the stack once.
 #[inline(never)]
 pub fn open(plan: &Plan, tables: &mut Tables)
     requires sound { Sound plan.now }
-    requires blank { tables.old ≡ blank_tables }
+    requires blank { tables.old ≡ with_stat tables.old.stat blank_tables }
     ensures { Opened plan.now tables.new }
 {
     let sizes = plan.sizes();
