@@ -32,7 +32,14 @@ pub fn number_of(field: &[u8]) -> Option<u32>
     let [first, rest @ ..] = field else {
         return None;
     };
-    if *first == b'0' && !rest.is_empty() {
+    // Most fields are one digit: it is read without the loop.
+    if rest.is_empty() {
+        if !first.is_ascii_digit() {
+            return None;
+        }
+        return Some(u32::from(*first - b'0'));
+    }
+    if *first == b'0' {
         return None;
     }
     let mut n: u32 = 0;
