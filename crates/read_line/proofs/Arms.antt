@@ -39,13 +39,13 @@ module _ (form : Form) (p q : PartRead) (line : List ℕ) (n : ℕ) (end : n ≡
   -- A line whose first field is unknown.
   pub done-unknown : is_unknown (kind_of (take n line)) ≡ true
       → LineDone form p p line (Err (record { fault = Fault.Unknown; line = p.progress.lines + 1 }))
-  done-unknown u = record { says = rw (parsed_is p.plan.sizes.words line, ← end, u) refl; noted = tt }
+  done-unknown u = record { says = rw (parsed_is p.plan.sizes.words line, ← end, u) refl; noted = refl }
 
   module _ (known : is_unknown (kind_of (take n line)) ≡ false) where
     -- A line that cannot stand where it does.
     pub done-misplaced : stands form (draft_in p) (kind_of (take n line)) ≡ false
         → LineDone form p p line (Err (record { fault = Fault.Misplaced; line = p.progress.lines + 1 }))
-    done-misplaced s = record { says = rw (parsed_is p.plan.sizes.words line, ← end, known, s) refl; noted = tt }
+    done-misplaced s = record { says = rw (parsed_is p.plan.sizes.words line, ← end, known, s) refl; noted = refl }
 
     -- A line that can.
     pub done-read : (r : Result Unit LineFault) → stands form (draft_in p) (kind_of (take n line)) ≡ true

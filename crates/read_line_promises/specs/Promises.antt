@@ -42,10 +42,11 @@ abbrev pub read_outcome : Result Unit LineFault → PartRead → ReadOutcome
 read_outcome (Ok u) q = sound (draft_in q)
 read_outcome (Err e) q = refused e.fault e.line
 
--- The single entries of a line that says i are noted behind the earlier ones, where the line is not refused.
+-- The single entries of a line that says i are noted behind the earlier ones; where the line is refused, all that has
+-- been read stays as it was.
 abbrev pub Noted : Result Unit LineFault → PartRead → PartRead → Option Directive → Type 0
 Noted (Ok u) p q i = listed_in q.notes.items ≡ listed_in p.notes.items ++ listed (p.progress.lines + 1) i
-Noted (Err e) p q i = Unit {0}
+Noted (Err e) p q i = q ≡ p
 
 -- A line that says i, whose kind is known and stands where it can, is read from p to q and the answer r. Its form and
 -- kind are no matter.
