@@ -8,7 +8,7 @@ use Rattle.whole_written_records.proofs.write_unrefused.Goals as goal
 pub returns-in_err-plan : goal.returns-in_err-plan
 returns-in_err-plan c =
     let p = err_from_is_err_and c.from_residual.result c.from_residual.ensures.1 in
-    rw (p.1, p.2) (refused-out _ _ (refused_as _ _ _ c.in_err-plan.ensures))
+    rw (p.1, p.2) (refused-out _ _ (refused_as _ _ _ c.in_err-plan.ensures.1))
 
 pub run_notes-ran-requires : goal.run_notes-ran-requires
 run_notes-ran-requires c =
