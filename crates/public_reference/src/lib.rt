@@ -7,7 +7,7 @@ ghost use Rattle.spec_report.specs.Outcomes.{run_text, handed, left};
 ghost use Rattle.report_ending.specs.Finishing.{ended_of};
 ghost use Rattle.public_reference.specs.Answers.{answer_of};
 
-use read_line_promises::Progress;
+use read_line_promises::PartRead;
 use report_ending::Ended;
 use spec_format::{Form, Verdict};
 
@@ -33,7 +33,7 @@ impl From<Verdict> for Answer {
 pub fn check(text: &[u8], form: Form) -> Verdict
     ensures { result ≡ verdict_of (reading form text.now) }
 {
-    read_text::read(text, form, &mut Progress::blank())
+    read_text::read(text, form, &mut PartRead::blank())
 }
 
 // A verdict by its number and line.

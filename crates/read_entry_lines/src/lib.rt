@@ -9,7 +9,7 @@ ghost use Rattle.spec_format.specs.ParsedLines.{entry, step_numbers, directive_o
 ghost use Rattle.read_line_promises.specs.Promises.{LineStep};
 
 use read_few_numbers::numbers_at;
-use read_line_promises::Progress;
+use read_line_promises::PartRead;
 use read_tables::Note;
 use spec_format::{Entry, Fault, LineFault};
 
@@ -18,11 +18,11 @@ const MOST: u32 = 4000;
 
 // The line of an entry that comes so many times: it is noted with its line. Its job, update or card is judged when it
 // runs.
-fn entry_line(noted: Option<(Entry, u32)>, progress: &mut Progress) -> Result<(), LineFault>
-    requires { progress.old.lines < 65536 }
-    ensures { LineStep progress.old progress.new (option_map (λ x. entry x.0 x.1) noted) result }
+fn entry_line(noted: Option<(Entry, u32)>, part: &mut PartRead) -> Result<(), LineFault>
+    requires { part.old.progress.lines < 65536 }
+    ensures { LineStep part.old part.new (option_map (λ x. entry x.0 x.1) noted) result }
 {
-    let number = progress.lines + 1;
+    let number = part.progress.lines + 1;
     let Some((entry, times)) = noted else {
         return Err(LineFault {
             fault: Fault::Malformed,
@@ -36,7 +36,7 @@ fn entry_line(noted: Option<(Entry, u32)>, progress: &mut Progress) -> Result<()
         });
     }
     let room = (MOST - times) as usize;
-    if room < progress.entries {
+    if room < part.progress.entries {
         return Err(LineFault {
             fault: Fault::TooMany,
             line: number,
@@ -47,9 +47,9 @@ fn entry_line(noted: Option<(Entry, u32)>, progress: &mut Progress) -> Result<()
         times,
         line: number as u32,
     };
-    progress.notes.push(note);
-    progress.entries += times as usize;
-    progress.lines = number;
+    part.notes.push(note);
+    part.progress.entries += times as usize;
+    part.progress.lines = number;
     Ok(())
 }
 
@@ -67,11 +67,11 @@ fn call_at(line: &[u8], at: usize) -> Option<(Entry, u32)>
 }
 
 // The line `call job update`.
-pub fn call_line(line: &[u8], at: usize, progress: &mut Progress) -> Result<(), LineFault>
-    requires { progress.old.lines < 65536 }
-    ensures { LineStep progress.old progress.new (directive_of Kind.Call (numbers 2 (fields_at line.now at))) result }
+pub fn call_line(line: &[u8], at: usize, part: &mut PartRead) -> Result<(), LineFault>
+    requires { part.old.progress.lines < 65536 }
+    ensures { LineStep part.old part.new (directive_of Kind.Call (numbers 2 (fields_at line.now at))) result }
 {
-    entry_line(call_at(line, at), progress)
+    entry_line(call_at(line, at), part)
 }
 
 // The step of a card.
@@ -99,10 +99,10 @@ fn step_at(line: &[u8], at: usize) -> Option<(Entry, u32)>
 }
 
 // The line `step card` or `step card n`.
-pub fn step_line(line: &[u8], at: usize, progress: &mut Progress) -> Result<(), LineFault>
-    requires { progress.old.lines < 65536 }
+pub fn step_line(line: &[u8], at: usize, part: &mut PartRead) -> Result<(), LineFault>
+    requires { part.old.progress.lines < 65536 }
     ensures { let fs = fields_at line.now at in
-        LineStep progress.old progress.new (directive_of Kind.Step (numbers (step_numbers fs) fs)) result }
+        LineStep part.old part.new (directive_of Kind.Step (numbers (step_numbers fs) fs)) result }
 {
-    entry_line(step_at(line, at), progress)
+    entry_line(step_at(line, at), part)
 }

@@ -11,8 +11,8 @@ use Rattle.spec_format.specs.declared.LineFault.{LineFault}
 use Rattle.spec_format.specs.Kinds.{kind_of}
 use Rattle.spec_format.specs.ParsedLines.{directive_of, numbers_for, parsed_of}
 use Rattle.spec_format.specs.Faults.{is_unknown, stands}
-use Rattle.read_line_promises.specs.declared.Progress.{Progress}
-use Rattle.read_line_promises.specs.Promises.{draft_of, LineStep, LineDone}
+use Rattle.read_line_promises.specs.declared.PartRead.{PartRead}
+use Rattle.read_line_promises.specs.Promises.{draft_in, LineStep, LineDone}
 
 -- The test whether a kind is the unknown one.
 pub unknown-is : (k : Kind) → sameb the_type k Kind.Unknown ≡ is_unknown k
@@ -35,20 +35,20 @@ parsed_is : (s : ℕ) (line : List ℕ)
 unfolding parsed_of
 parsed_is s line = rw (fields-first line) refl
 
-module _ (form : Form) (p q : Progress) (line : List ℕ) (n : ℕ) (end : n ≡ place_of 9 line 0) where
+module _ (form : Form) (p q : PartRead) (line : List ℕ) (n : ℕ) (end : n ≡ place_of 9 line 0) where
   -- A line whose first field is unknown.
   pub done-unknown : is_unknown (kind_of (take n line)) ≡ true
-      → LineDone form p p line (Err (record { fault = Fault.Unknown; line = p.lines + 1 }))
-  done-unknown u = record { says = rw (parsed_is p.plan.sizes.words line, ← end, u) refl; noted = tt }
+      → LineDone form p p line (Err (record { fault = Fault.Unknown; line = p.progress.lines + 1 }))
+  done-unknown u = record { says = rw (parsed_is p.plan.sizes.words line, ← end, u) refl; noted = refl }
 
   module _ (known : is_unknown (kind_of (take n line)) ≡ false) where
     -- A line that cannot stand where it does.
-    pub done-misplaced : stands form (draft_of p) (kind_of (take n line)) ≡ false
-        → LineDone form p p line (Err (record { fault = Fault.Misplaced; line = p.lines + 1 }))
-    done-misplaced s = record { says = rw (parsed_is p.plan.sizes.words line, ← end, known, s) refl; noted = tt }
+    pub done-misplaced : stands form (draft_in p) (kind_of (take n line)) ≡ false
+        → LineDone form p p line (Err (record { fault = Fault.Misplaced; line = p.progress.lines + 1 }))
+    done-misplaced s = record { says = rw (parsed_is p.plan.sizes.words line, ← end, known, s) refl; noted = refl }
 
     -- A line that can.
-    pub done-read : (r : Result Unit LineFault) → stands form (draft_of p) (kind_of (take n line)) ≡ true
+    pub done-read : (r : Result Unit LineFault) → stands form (draft_in p) (kind_of (take n line)) ≡ true
         → LineStep p q
         (let k = kind_of (take n line) in directive_of k (numbers_for p.plan.sizes.words k (fields_at line (n + 1)))) r
         → LineDone form p q line r

@@ -1,13 +1,13 @@
 -- What a kind that can stand asks of what has been read. Assumes nothing.
 use Rattle.std.specs.Prelude.{◌<◌, ◌≡◌, length}
 use Rattle.spec_format.specs.declared.Kind.{Kind}
-use Rattle.read_line_promises.specs.declared.Progress.{Progress}
+use Rattle.read_line_promises.specs.declared.PartRead.{PartRead}
 
 -- What a kind that can stand behind what has been read asks of it; an unknown kind stands nowhere.
-abbrev pub Standing : Progress → Kind → Type 0
-Standing p Kind.Plan = p.lines ≡ 0
+abbrev pub Standing : PartRead → Kind → Type 0
+Standing p Kind.Plan = p.progress.lines ≡ 0
 Standing p Kind.Job = length p.plan.jobs < p.plan.sizes.jobs
-Standing p Kind.Block = p.blocks < p.plan.sizes.blocks
+Standing p Kind.Block = p.progress.blocks < p.plan.sizes.blocks
 Standing p Kind.Update = Unit {0}
 Standing p Kind.Copy = 0 < length p.plan.updates
 Standing p Kind.Set = 0 < length p.plan.updates

@@ -13,7 +13,7 @@ use read_entry_lines::{call_line, step_line};
 use read_few_numbers::numbers_at;
 use read_fields::find;
 use read_kinds::{can_stand, kind_of};
-use read_line_promises::Progress;
+use read_line_promises::PartRead;
 use read_plan_lines::{block_line, job_line, plan_line};
 use read_update_lines::{move_line, update_line};
 use spec_format::{Fault, Form, Kind, LineFault, Move};
@@ -51,33 +51,33 @@ fn add_at(line: &[u8], at: usize) -> Option<Move>
 }
 
 // A line of a kind that can stand where it does.
-fn read_kind(kind: Kind, line: &[u8], at: usize, progress: &mut Progress) -> Result<(), LineFault>
-    requires standing { Standing progress.old kind }
-    requires room { progress.old.lines < 65536 }
-    ensures { LineStep progress.old progress.new
-        (directive_of kind (numbers_for progress.old.plan.sizes.words kind (fields_at line.now at)))
+fn read_kind(kind: Kind, line: &[u8], at: usize, part: &mut PartRead) -> Result<(), LineFault>
+    requires standing { Standing part.old kind }
+    requires room { part.old.progress.lines < 65536 }
+    ensures { LineStep part.old part.new
+        (directive_of kind (numbers_for part.old.plan.sizes.words kind (fields_at line.now at)))
         result }
 {
     match kind {
-        Kind::Plan => plan_line(line, at, progress),
-        Kind::Job => job_line(line, at, progress),
-        Kind::Block => block_line(line, at, progress),
-        Kind::Update => update_line(update_at(line, at), progress),
-        Kind::Copy => move_line(copy_at(line, at), progress),
-        Kind::Set => move_line(set_at(line, at), progress),
-        Kind::Add => move_line(add_at(line, at), progress),
-        Kind::Call => call_line(line, at, progress),
-        Kind::Step => step_line(line, at, progress),
+        Kind::Plan => plan_line(line, at, part),
+        Kind::Job => job_line(line, at, part),
+        Kind::Block => block_line(line, at, part),
+        Kind::Update => update_line(update_at(line, at), part),
+        Kind::Copy => move_line(copy_at(line, at), part),
+        Kind::Set => move_line(set_at(line, at), part),
+        Kind::Add => move_line(add_at(line, at), part),
+        Kind::Call => call_line(line, at, part),
+        Kind::Step => step_line(line, at, part),
         Kind::Unknown => unreachable!(),
     }
 }
 
 // One line, read from its own first byte.
-pub fn read_line(line: &[u8], form: Form, progress: &mut Progress) -> Result<(), LineFault>
-    requires { progress.old.lines < 65536 }
-    ensures { LineDone form progress.old progress.new line.now result }
+pub fn read_line(line: &[u8], form: Form, part: &mut PartRead) -> Result<(), LineFault>
+    requires { part.old.progress.lines < 65536 }
+    ensures { LineDone form part.old part.new line.now result }
 {
-    let number = progress.lines + 1;
+    let number = part.progress.lines + 1;
     let end = find(line, 0, b'\t');
     let kind = kind_of(&line[..end]);
     if kind == Kind::Unknown {
@@ -86,11 +86,11 @@ pub fn read_line(line: &[u8], form: Form, progress: &mut Progress) -> Result<(),
             line: number,
         });
     }
-    if !can_stand(form, progress, kind) {
+    if !can_stand(form, part.progress, &part.plan, kind) {
         return Err(LineFault {
             fault: Fault::Misplaced,
             line: number,
         });
     }
-    read_kind(kind, line, end + 1, progress)
+    read_kind(kind, line, end + 1, part)
 }

@@ -10,7 +10,7 @@ ghost use Rattle.read_line_promises.specs.Promises.{LineStep};
 
 use read_few_numbers::numbers_at;
 use read_fields::read_numbers;
-use read_line_promises::Progress;
+use read_line_promises::PartRead;
 use read_sizes::in_range;
 use spec_format::{Fault, Job, LineFault, Sizes};
 
@@ -18,11 +18,11 @@ use spec_format::{Fault, Job, LineFault, Sizes};
 const LARGEST_PRIORITY: usize = 255;
 
 // `plan P N B S C`.
-pub fn plan_line(line: &[u8], at: usize, progress: &mut Progress) -> Result<(), LineFault>
-    requires { progress.old.lines ≡ 0 }
-    ensures { LineStep progress.old progress.new (directive_of Kind.Plan (numbers 5 (fields_at line.now at))) result }
+pub fn plan_line(line: &[u8], at: usize, part: &mut PartRead) -> Result<(), LineFault>
+    requires { part.old.progress.lines ≡ 0 }
+    ensures { LineStep part.old part.new (directive_of Kind.Plan (numbers 5 (fields_at line.now at))) result }
 {
-    let number = progress.lines + 1;
+    let number = part.progress.lines + 1;
     let Some(numbers) = numbers_at::<5>(line, at) else {
         return Err(LineFault {
             fault: Fault::Malformed,
@@ -43,18 +43,18 @@ pub fn plan_line(line: &[u8], at: usize, progress: &mut Progress) -> Result<(), 
             line: number,
         });
     }
-    progress.plan.set_sizes(sizes);
-    progress.lines = number;
+    part.plan.set_sizes(sizes);
+    part.progress.lines = number;
     Ok(())
 }
 
 // `job card priority`.
-pub fn job_line(line: &[u8], at: usize, progress: &mut Progress) -> Result<(), LineFault>
-    requires more { length progress.old.plan.jobs < progress.old.plan.sizes.jobs }
-    requires room { progress.old.lines < 65536 }
-    ensures { LineStep progress.old progress.new (directive_of Kind.Job (numbers 2 (fields_at line.now at))) result }
+pub fn job_line(line: &[u8], at: usize, part: &mut PartRead) -> Result<(), LineFault>
+    requires more { length part.old.plan.jobs < part.old.plan.sizes.jobs }
+    requires room { part.old.progress.lines < 65536 }
+    ensures { LineStep part.old part.new (directive_of Kind.Job (numbers 2 (fields_at line.now at))) result }
 {
-    let number = progress.lines + 1;
+    let number = part.progress.lines + 1;
     let Some(numbers) = numbers_at::<2>(line, at) else {
         return Err(LineFault {
             fault: Fault::Malformed,
@@ -66,42 +66,42 @@ pub fn job_line(line: &[u8], at: usize, progress: &mut Progress) -> Result<(), L
         card: card as usize,
         priority: priority as usize,
     };
-    if progress.plan.sizes().cards <= job.card || LARGEST_PRIORITY < job.priority {
+    if part.plan.sizes().cards <= job.card || LARGEST_PRIORITY < job.priority {
         return Err(LineFault {
             fault: Fault::BadJob,
             line: number,
         });
     }
-    if progress.plan.jobs().contains(&job) {
+    if part.plan.jobs().contains(&job) {
         return Err(LineFault {
             fault: Fault::SameJob,
             line: number,
         });
     }
-    progress.plan.push_job(job);
-    progress.lines = number;
+    part.plan.push_job(job);
+    part.progress.lines = number;
     Ok(())
 }
 
 // `block` with S opening words.
-pub fn block_line(line: &[u8], at: usize, progress: &mut Progress) -> Result<(), LineFault>
-    requires more { progress.old.blocks < progress.old.plan.sizes.blocks }
-    requires room { progress.old.lines < 65536 }
-    ensures { LineStep progress.old progress.new
-        (directive_of Kind.Block (numbers progress.old.plan.sizes.words (fields_at line.now at)))
+pub fn block_line(line: &[u8], at: usize, part: &mut PartRead) -> Result<(), LineFault>
+    requires more { part.old.progress.blocks < part.old.plan.sizes.blocks }
+    requires room { part.old.progress.lines < 65536 }
+    ensures { LineStep part.old part.new
+        (directive_of Kind.Block (numbers part.old.plan.sizes.words (fields_at line.now at)))
         result }
 {
-    let number = progress.lines + 1;
+    let number = part.progress.lines + 1;
     let mut words = [0; 16];
-    let words = &mut words[..progress.plan.sizes().words];
+    let words = &mut words[..part.plan.sizes().words];
     let Some(()) = read_numbers(line, at, words) else {
         return Err(LineFault {
             fault: Fault::Malformed,
             line: number,
         });
     };
-    progress.plan.push_words(words);
-    progress.blocks += 1;
-    progress.lines = number;
+    part.plan.push_words(words);
+    part.progress.blocks += 1;
+    part.progress.lines = number;
     Ok(())
 }

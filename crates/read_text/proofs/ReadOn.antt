@@ -24,8 +24,8 @@ use Rattle.spec_format.specs.Reading.{reading}
 use Rattle.spec_format.proofs.FirstFault.{one_more}
 use Rattle.spec_format.proofs.Sound.{line-listed}
 use Rattle.read_tables.specs.Notes.{listed_in}
-use Rattle.read_line_promises.specs.declared.Progress.{Progress}
-use Rattle.read_line_promises.specs.Promises.{draft_of, Unread, line_outcome, LineDone}
+use Rattle.read_line_promises.specs.declared.PartRead.{PartRead}
+use Rattle.read_line_promises.specs.Promises.{draft_in, Unread, line_outcome, LineDone}
 
 -- What a text gives of which n lines with the single entries es have been read, where the lines ls that are left come
 -- to an outcome.
@@ -34,8 +34,8 @@ given_on n es ls (refused f m) = refusal f m
 given_on n es ls (sound d) = accepted d.plan (es ++ entries_of d.plan.sizes.words (n + 1) ls) (n + length ls)
 
 -- What the lines that are left come to, behind what has been read.
-unfoldable pub reading_on : Form → Progress → List Line → Reading
-reading_on form p ls = given_on p.lines (listed_in p.notes.items) ls (read_lines form (draft_of p) ls)
+unfoldable pub reading_on : Form → PartRead → List Line → Reading
+reading_on form p ls = given_on p.progress.lines (listed_in p.notes.items) ls (read_lines form (draft_in p) ls)
 
 -- A text over the limit is refused for that.
 pub too_long : (form : Form) (text : List ℕ) → 65536 < length text → reading form text ≡ refusal Fault.TooLong 0
@@ -43,31 +43,31 @@ unfolding reading
 too_long form text l = rw (lt-ltb 65536 (length text) l)
 
 -- Before the first line all is left to read.
-pub starts : (form : Form) (p : Progress) (text : List ℕ) → length text ≤ 65536 → Unread p
+pub starts : (form : Form) (p : PartRead) (text : List ℕ) → length text ≤ 65536 → Unread p
     → reading form text ≡ reading_on form p (lines text)
 unfolding reading reading_on
 starts form p text h u =
     rw (le-ltb 65536 (length text) h, u.none_noted, u.draft) (go (read_lines form blank (lines text)))
   where
-    none : p.lines ≡ 0
+    none : p.progress.lines ≡ 0
     none = ap (λ (d : Draft). d.lines) u.draft
 
-    go : (o : ReadOutcome) → given (lines text) o ≡ given_on p.lines [] (lines text) o
+    go : (o : ReadOutcome) → given (lines text) o ≡ given_on p.progress.lines [] (lines text) o
     go (refused f n) = refl
     go (sound d) = rw none (ap (accepted d.plan (entries_of d.plan.sizes.words 1 (lines text))) (omega arith))
 
 -- No line is left: the text ends too early,
-pub ends-early : (form : Form) (p : Progress) → laid_out (draft_of p) ≡ false
-    → reading_on form p (lines []) ≡ refusal Fault.Misplaced (p.lines + 1)
+pub ends-early : (form : Form) (p : PartRead) → laid_out (draft_in p) ≡ false
+    → reading_on form p (lines []) ≡ refusal Fault.Misplaced (p.progress.lines + 1)
 unfolding reading_on
 ends-early form p e = rw (lines_none, e) refl
 
 -- or gives what has been read.
-pub ends : (form : Form) (p : Progress) → laid_out (draft_of p) ≡ true
-    → reading_on form p (lines []) ≡ accepted p.plan (listed_in p.notes.items) p.lines
+pub ends : (form : Form) (p : PartRead) → laid_out (draft_in p) ≡ true
+    → reading_on form p (lines []) ≡ accepted p.plan (listed_in p.notes.items) p.progress.lines
 unfolding reading_on
 ends form p e =
-    let same : p.lines + 0 ≡ p.lines = omega arith in
+    let same : p.progress.lines + 0 ≡ p.progress.lines = omega arith in
     rw (lines_none, e, append-nil (listed_in p.notes.items), same) refl
 
 -- A line taken apart is ended if the line is.
@@ -89,8 +89,8 @@ unfolding place_of
 nowhere s e = let none = rw e at (position-or (λ b. b == 10) s) in omega (arith, none)
 
 -- A last line without its line feed is refused.
-pub open-refused : (form : Form) (p : Progress) (s : List ℕ) → 0 < length s → position (λ b. b == 10) s ≡ None
-    → reading_on form p (lines s) ≡ refusal Fault.Unknown (p.lines + 1)
+pub open-refused : (form : Form) (p : PartRead) (s : List ℕ) → 0 < length s → position (λ b. b == 10) s ≡ None
+    → reading_on form p (lines s) ≡ refusal Fault.Unknown (p.progress.lines + 1)
 unfolding reading_on parsed_of
 open-refused form p s some e =
     let none : place_of 10 s 0 ≡ length s = nowhere s e in
@@ -121,13 +121,13 @@ sound-after form d e r = go (first_of (has_fault form d r) by_rank)
     go None q = cc
     go (Some f) q = let z : ◌≡◌ {A = ℕ} 0 1 = cc in absurd (omega arith)
 
-module _ (form : Form) (p q : Progress) (s : List ℕ) (n : ℕ) (end : position (λ b. b == 10) s ≡ Some n) where
+module _ (form : Form) (p q : PartRead) (s : List ℕ) (n : ℕ) (end : position (λ b. b == 10) s ≡ Some n) where
   -- The line, and what it says.
   abbrev the_line : Line
   the_line = record { bytes = take n s; ended = true }
 
   abbrev says-it : Option Directive
-  says-it = (parsed_in (draft_of p) the_line).directive
+  says-it = (parsed_in (draft_in p) the_line).directive
 
   -- The lines.
   lines-here : lines s ≡ the_line ∷ lines (drop (n + 1) s)
@@ -142,37 +142,37 @@ module _ (form : Form) (p q : Progress) (s : List ℕ) (n : ℕ) (end : position
       → reading_on form p (lines s) ≡ refusal e.fault e.line
   unfolding reading_on
   line_refused e done =
-      rw (lines-here, one_by_one form (draft_of p) the_line (lines (drop (n + 1) s)), ← done.says) refl
+      rw (lines-here, one_by_one form (draft_in p) the_line (lines (drop (n + 1) s)), ← done.says) refl
 
   module _ (done : LineDone form p q (take n s) (Ok tt)) where
     -- One more line has been read.
-    pub lines-is : q.lines ≡ p.lines + 1
+    pub lines-is : q.progress.lines ≡ p.progress.lines + 1
     lines-is =
-        ap (λ (d : Draft). d.lines) (sound-after form (draft_of p) (draft_of q) (parsed_in (draft_of p) the_line) done.says)
-        ∙ one_more (draft_of p) says-it
+        ap (λ (d : Draft). d.lines) (sound-after form (draft_in p) (draft_in q) (parsed_in (draft_in p) the_line) done.says)
+        ∙ one_more (draft_in p) says-it
 
     -- The single entries noted with the line's, and those behind it, are all.
     entries-are : (w : ℕ) (ls : List Line)
-        → listed_in p.notes.items ++ entries_of w (p.lines + 1) (the_line ∷ ls)
-        ≡ listed_in q.notes.items ++ entries_of w (q.lines + 1) ls
+        → listed_in p.notes.items ++ entries_of w (p.progress.lines + 1) (the_line ∷ ls)
+        ≡ listed_in q.notes.items ++ entries_of w (q.progress.lines + 1) ls
     entries-are w ls =
-        ap (λ l. listed_in p.notes.items ++ (l ++ entries_of w (p.lines + 1 + 1) ls))
-        (line-listed w p.plan.sizes.words (p.lines + 1) the_line)
-        ∙ sym (append_assoc (listed_in p.notes.items) (listed (p.lines + 1) says-it) (entries_of w (p.lines + 1 + 1) ls))
+        ap (λ l. listed_in p.notes.items ++ (l ++ entries_of w (p.progress.lines + 1 + 1) ls))
+        (line-listed w p.plan.sizes.words (p.progress.lines + 1) the_line)
+        ∙ sym (append_assoc (listed_in p.notes.items) (listed (p.progress.lines + 1) says-it) (entries_of w (p.progress.lines + 1 + 1) ls))
         ∙ (λ i. sym done.noted i ++ entries_of w (sym lines-is i + 1) ls)
 
     -- The line is read.
     pub line_read : reading_on form p (lines s) ≡ reading_on form q (lines (drop (n + 1) s))
     unfolding reading_on
     line_read =
-        rw (lines-here, one_by_one form (draft_of p) the_line (lines (drop (n + 1) s)), ← done.says)
-        (go (read_lines form (draft_of q) (lines (drop (n + 1) s))))
+        rw (lines-here, one_by_one form (draft_in p) the_line (lines (drop (n + 1) s)), ← done.says)
+        (go (read_lines form (draft_in q) (lines (drop (n + 1) s))))
       where
         go : (o : ReadOutcome)
-            → given_on p.lines (listed_in p.notes.items) (the_line ∷ lines (drop (n + 1) s)) o
-            ≡ given_on q.lines (listed_in q.notes.items) (lines (drop (n + 1) s)) o
+            → given_on p.progress.lines (listed_in p.notes.items) (the_line ∷ lines (drop (n + 1) s)) o
+            ≡ given_on q.progress.lines (listed_in q.notes.items) (lines (drop (n + 1) s)) o
         go (refused f m) = refl
         go (sound d) =
             let ls = lines (drop (n + 1) s) in
-            let many : p.lines + length (the_line ∷ ls) ≡ q.lines + length ls = omega (arith, lines-is) in
+            let many : p.progress.lines + length (the_line ∷ ls) ≡ q.progress.lines + length ls = omega (arith, lines-is) in
             λ i. accepted d.plan (entries-are d.plan.sizes.words ls i) (many i)

@@ -7,7 +7,7 @@ ghost use Rattle.read_line_promises.specs.Promises.{Unread};
 ghost use Rattle.read_text.specs.Readings.{ReadTo};
 
 use read_line::read_line;
-use read_line_promises::Progress;
+use read_line_promises::PartRead;
 use spec_format::{Fault, Form, LineFault, Verdict};
 
 // The most bytes of a text.
@@ -24,9 +24,9 @@ fn end_of(rest: &[u8]) -> Option<usize>
 
 // Reads a text, which is measured first. Each line is ended by a line feed: a last line without one is refused,
 // whatever it holds. Time is linear in the text, whatever the runs in it.
-pub fn read(text: &[u8], form: Form, progress: &mut Progress) -> Verdict
-    requires { Unread progress.old }
-    ensures { ReadTo (reading form text.now) result progress.new }
+pub fn read(text: &[u8], form: Form, part: &mut PartRead) -> Verdict
+    requires { Unread part.old }
+    ensures { ReadTo (reading form text.now) result part.new }
 {
     if LONGEST < text.len() {
         return Err(LineFault {
@@ -41,17 +41,17 @@ pub fn read(text: &[u8], form: Form, progress: &mut Progress) -> Verdict
         let Some(end) = end_of(rest) else {
             return Err(LineFault {
                 fault: Fault::Unknown,
-                line: progress.lines + 1,
+                line: part.progress.lines + 1,
             });
         };
-        read_line(&rest[..end], form, progress)?;
+        read_line(&rest[..end], form, part)?;
         rest = &rest[end + 1..];
     }
-    if !read_kinds::laid_out(progress) {
+    if !read_kinds::laid_out(part.progress, &part.plan) {
         return Err(LineFault {
             fault: Fault::Misplaced,
-            line: progress.lines + 1,
+            line: part.progress.lines + 1,
         });
     }
-    Ok(progress.lines)
+    Ok(part.progress.lines)
 }

@@ -7,25 +7,25 @@ ghost use Rattle.spec_format.specs.ParsedLines.{update, move};
 ghost use Rattle.spec_format.specs.Faults.{last_of, some_from};
 ghost use Rattle.read_line_promises.specs.Promises.{LineStep};
 
-use read_line_promises::Progress;
+use read_line_promises::PartRead;
 use read_tables::Plan;
 use read_written_blocks::{blocks_with, memory_of};
 use spec_format::{Fault, LineFault, Move};
 
 // The line of an update: its number must be the next one, which is how many updates there are.
 #[tactic(auto, using(std::proofs::lemmas::List::length_push, crate::proofs::Updates::none_written))]
-pub fn update_line(n: Option<u32>, progress: &mut Progress) -> Result<(), LineFault>
-    requires { progress.old.lines < 65536 }
-    ensures { LineStep progress.old progress.new (option_map update n) result }
+pub fn update_line(n: Option<u32>, part: &mut PartRead) -> Result<(), LineFault>
+    requires { part.old.progress.lines < 65536 }
+    ensures { LineStep part.old part.new (option_map update n) result }
 {
-    let number = progress.lines + 1;
+    let number = part.progress.lines + 1;
     let Some(n) = n else {
         return Err(LineFault {
             fault: Fault::Malformed,
             line: number,
         });
     };
-    let updates = progress.plan.updates();
+    let updates = part.plan.updates();
     if 32 <= updates {
         return Err(LineFault {
             fault: Fault::TooMany,
@@ -38,9 +38,9 @@ pub fn update_line(n: Option<u32>, progress: &mut Progress) -> Result<(), LineFa
             line: number,
         });
     }
-    progress.plan.push_update();
-    progress.written = 0;
-    progress.lines = number;
+    part.plan.push_update();
+    part.progress.written = 0;
+    part.progress.lines = number;
     Ok(())
 }
 
@@ -78,19 +78,19 @@ fn written_with(moves: &[Move], m: Move, size: usize, blocks: usize) -> usize
 
 // The line of a move: it is judged, and put behind the moves of the last update.
 #[tactic(auto, using(crate::proofs::Updates::last_more, crate::proofs::Updates::length_more))]
-pub fn move_line(m: Option<Move>, progress: &mut Progress) -> Result<(), LineFault>
-    requires some { 0 < length progress.old.plan.updates }
-    requires room { progress.old.lines < 65536 }
-    ensures { LineStep progress.old progress.new (option_map move m) result }
+pub fn move_line(m: Option<Move>, part: &mut PartRead) -> Result<(), LineFault>
+    requires some { 0 < length part.old.plan.updates }
+    requires room { part.old.progress.lines < 65536 }
+    ensures { LineStep part.old part.new (option_map move m) result }
 {
-    let number = progress.lines + 1;
+    let number = part.progress.lines + 1;
     let Some(m) = m else {
         return Err(LineFault {
             fault: Fault::Malformed,
             line: number,
         });
     };
-    let moves = last_moves(&progress.plan);
+    let moves = last_moves(&part.plan);
     let count = moves.len();
     if 16 <= count {
         return Err(LineFault {
@@ -98,22 +98,22 @@ pub fn move_line(m: Option<Move>, progress: &mut Progress) -> Result<(), LineFau
             line: number,
         });
     }
-    let sizes = progress.plan.sizes();
+    let sizes = part.plan.sizes();
     if names_past(m, memory_of(sizes)) {
         return Err(LineFault {
             fault: Fault::BadWord,
             line: number,
         });
     }
-    let blocks = written_with(moves, m, sizes.words, progress.written);
+    let blocks = written_with(moves, m, sizes.words, part.progress.written);
     if sizes.copies < blocks {
         return Err(LineFault {
             fault: Fault::TooManyBlocks,
             line: number,
         });
     }
-    progress.plan.push_move(m);
-    progress.written = blocks;
-    progress.lines = number;
+    part.plan.push_move(m);
+    part.progress.written = blocks;
+    part.progress.lines = number;
     Ok(())
 }

@@ -4,9 +4,9 @@
 ghost use Rattle.std.specs.Prelude.{◌≡◌, MatchResult};
 ghost use Rattle.spec_report.specs.declared.End.{End};
 ghost use Rattle.spec_report.specs.Outcomes.{refused, run_schedule};
-ghost use Rattle.whole_records_start.specs.Begun.{Begun};
+ghost use Rattle.whole_records_start.specs.Begun.{Begun, NotBegun};
 
-use read_line_promises::Progress;
+use read_line_promises::PartRead;
 use read_records::MOST;
 use read_tables::Plan;
 use spec_format::{Entry, Fault, Form, LineFault};
@@ -17,15 +17,16 @@ use spec_format::{Entry, Fault, Form, LineFault};
 #[tactic(auto, unfolding(spec_report::specs::Outcomes::run_schedule))]
 pub fn begin(text: &[u8], records: &[Entry]) -> Result<Plan, LineFault>
     ensures { MatchResult result (Begun text.now records.now)
-        (λ e. run_schedule text.now records.now ≡ refused (End.Faulty e.fault e.line)) }
+        (λ e. NotBegun text.now records.now e
+        × (run_schedule text.now records.now ≡ refused (End.Faulty e.fault e.line))) }
 {
-    let mut progress = Progress::blank();
-    read_text::read(text, Form::PlanAlone, &mut progress)?;
+    let mut part = PartRead::blank();
+    read_text::read(text, Form::PlanAlone, &mut part)?;
     if records.len() > MOST {
         return Err(LineFault {
             fault: Fault::TooMany,
             line: MOST + 1,
         });
     }
-    Ok(progress.plan)
+    Ok(part.plan)
 }

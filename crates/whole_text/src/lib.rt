@@ -9,7 +9,7 @@ ghost use Rattle.report_ending.specs.Finishing.{WrittenOut};
 ghost use Rattle.whole_text.specs.Reads.{Reads};
 
 use arrayvec::ArrayVec;
-use read_line_promises::Progress;
+use read_line_promises::PartRead;
 use read_tables::{Notes, Plan};
 use report_ending::WrittenEnd;
 use spec_format::Form;
@@ -52,9 +52,9 @@ fn run_plan(plan: &Plan, notes: &Notes, lines: usize, buffer: &mut [u8]) -> Writ
 pub fn run_text(text: &[u8], buffer: &mut [u8]) -> WrittenEnd
     ensures { WrittenOut (run_text text.now) buffer.old result buffer.new }
 {
-    let mut progress = Progress::blank();
-    match read_text::read(text, Form::Schedule, &mut progress) {
-        Ok(lines) => run_plan(&progress.plan, &progress.notes, lines, buffer),
+    let mut part = PartRead::blank();
+    match read_text::read(text, Form::Schedule, &mut part) {
+        Ok(lines) => run_plan(&part.plan, &part.notes, lines, buffer),
         Err(refused) => refused.into(),
     }
 }

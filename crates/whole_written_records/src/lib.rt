@@ -20,10 +20,10 @@ fn write_unrefused(
 {
     let plan = whole_records_start::begin(text, records)?;
     let mut notes = Notes::new();
-    read_records::note_records(records, &mut notes);
+    let count = read_records::note_records(records, &mut notes);
     let ran = run_from_opening::run_notes(&plan, &notes);
     let place = ran.entries + 1;
-    let end = whole_records_end::end_of_records(ran.halt, place, ran.other, records.len())?;
+    let end = whole_records_end::end_of_records(ran.halt, place, ran.other, count)?;
     Ok(whole_written_end::write_after(&plan, &mut notes, end, buffer))
 }
 

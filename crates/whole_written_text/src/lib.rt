@@ -11,7 +11,7 @@ ghost use Rattle.read_tables.specs.Notes.{listed_in};
 ghost use Rattle.report_ending.specs.Finishing.{WrittenOut};
 ghost use Rattle.whole_text.specs.Reads.{Reads};
 
-use read_line_promises::Progress;
+use read_line_promises::PartRead;
 use read_tables::{Notes, Plan};
 use report_ending::WrittenEnd;
 use spec_format::Form;
@@ -36,14 +36,14 @@ fn write_plan(plan: &Plan, notes: &mut Notes, lines: usize, buffer: &mut [u8]) -
 pub fn write_text(text: &[u8], buffer: &mut [u8]) -> WrittenEnd
     ensures { WrittenOut (write_text text.now) buffer.old result buffer.new }
 {
-    let progress = &mut Progress::blank();
-    let lines = match read_text::read(text, Form::Schedule, progress) {
+    let part = &mut PartRead::blank();
+    let lines = match read_text::read(text, Form::Schedule, part) {
         Ok(lines) => lines,
         Err(refused) => return refused.into(),
     };
-    let finished = write_plan(&progress.plan, &mut progress.notes, lines, buffer);
+    let finished = write_plan(&part.plan, &mut part.notes, lines, buffer);
     // The notes that were read are overwritten.
-    progress.notes.clear();
-    progress.entries = 0;
+    part.notes.clear();
+    part.progress.entries = 0;
     finished
 }

@@ -5,12 +5,12 @@ use Rattle.read_line.proofs.read_line.Goals as goal
 
 pub returns-then-eq : goal.returns-then-eq
 returns-then-eq c =
-    done-unknown _ _ c.args.progress.now _ c.find-end.result c.find-end.ensures.0
+    done-unknown _ _ c.args.part.now _ c.find-end.result c.find-end.ensures.0
     (rw (← c.kind_of-kind.ensures, ← unknown-is) (search rules))
 
 pub returns-then-not-can_stand : goal.returns-then-not-can_stand
 returns-then-not-can_stand c =
-    done-misplaced _ _ c.args.progress.now _ c.find-end.result c.find-end.ensures.0
+    done-misplaced _ _ c.args.part.now _ c.find-end.result c.find-end.ensures.0
     (rw (← c.kind_of-kind.ensures, ← unknown-is) (search rules))
     (rw (← c.kind_of-kind.ensures) (search rules))
 

@@ -19,7 +19,8 @@ none_written s (u ∷ us) e = absurd (omega arith)
 
 -- What always holds, with the sizes of the first line.
 sized : (z : Sizes) (plan : Plan) (notes : List Note) (blocks written entries : ℕ) → in_range z ≡ true
-    → Consistent plan notes 0 blocks written entries → Consistent (with_sizes z plan) notes 1 blocks written entries
+    → Consistent plan notes (record { lines = 0; blocks = blocks; written = written; entries = entries })
+    → Consistent (with_sizes z plan) notes (record { lines = 1; blocks = blocks; written = written; entries = entries })
 sized z plan notes blocks written entries good h =
     let no_block : blocks ≡ 0 = omega (arith, h.in_lines) in
     let no_update : length plan.updates ≡ 0 = omega (arith, h.in_lines) in
@@ -29,8 +30,8 @@ sized z plan notes blocks written entries good h =
     let none = none_written z.words plan.updates no_update in
     search rules
 
-pub invariant_of-progress : goal.invariant_of-progress
-invariant_of-progress c = record {
+pub invariant_of-part : goal.invariant_of-part
+invariant_of-part c = record {
   consistent = rw (c.set_sizes.ensures, c.requires)
-      (sized _ _ _ _ _ _ (sym c.in_range.ensures ∙ c.if-not-in_range.false) (rw c.requires at c.args.progress.now.consistent));
+      (sized _ _ _ _ _ _ (sym c.in_range.ensures ∙ c.if-not-in_range.false) (rw c.requires at c.args.part.now.consistent));
 }

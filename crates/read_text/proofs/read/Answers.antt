@@ -5,14 +5,14 @@ use Rattle.std.proofs.lemmas.List.{take_all, length-drop}
 use Rattle.std.proofs.lemmas.Result.{err_from_is_err_and}
 use Rattle.spec_format.specs.declared.LineFault.{LineFault}
 use Rattle.spec_format.specs.Reading.{Reading}
-use Rattle.read_line_promises.specs.declared.Progress.{Progress}
+use Rattle.read_line_promises.specs.declared.PartRead.{PartRead}
 use Rattle.read_text.specs.Readings.{reading_from, ReadTo}
 use Rattle.read_text.proofs.ReadOn.{too_long, starts, ends-early, ends, open-refused, line_refused, line_read, lines-is}
 use Rattle.read_text.proofs.ReadOn.{found}
 use Rattle.read_text.proofs.read.Goals as goal
 
--- What a text gives was read to this verdict and progress.
-read_to : {r : Reading} {v : Result ℕ LineFault} (p : Progress) → r ≡ reading_from v p.plan p.notes.items → ReadTo r v p
+-- What a text gives was read so far, to this verdict.
+read_to : {r : Reading} {v : Result ℕ LineFault} (p : PartRead) → r ≡ reading_from v p.plan p.notes.items → ReadTo r v p
 read_to p e = record { gives = sym e; counted = p.consistent.counted; few_entries = p.consistent.entries_read }
 
 -- Nothing is left.
@@ -21,11 +21,11 @@ none-left [] e = refl
 none-left (b ∷ s) e = absurd (omega arith)
 
 pub returns-then-text-gt-LONGEST : goal.returns-then-text-gt-LONGEST
-returns-then-text-gt-LONGEST c = read_to c.args.progress.now (too_long _ _ c.if-text-gt-LONGEST.true)
+returns-then-text-gt-LONGEST c = read_to c.args.part.now (too_long _ _ c.if-text-gt-LONGEST.true)
 
 pub loop-rest-init : goal.loop-rest-init
 loop-rest-init c =
-    let none : c.args.progress.now.lines ≡ 0 = ap (λ d. d.lines) c.requires.draft in
+    let none : c.args.part.now.progress.lines ≡ 0 = ap (λ d. d.lines) c.requires.draft in
     record {
       room = omega (arith, none);
       same = starts _ _ _ (omega arith) c.requires;
@@ -33,7 +33,7 @@ loop-rest-init c =
 
 pub returns-in_default : goal.returns-in_default
 returns-in_default c =
-    read_to c.loop-rest.progress
+    read_to c.loop-rest.part
     (c.loop-rest.invariant.same
     ∙ open-refused _ _ _ (search rules) (sym c.end_of.ensures ∙ c.in_default.is))
 
@@ -41,7 +41,7 @@ pub returns-in_err-read_line : goal.returns-in_err-read_line
 returns-in_err-read_line c =
     let p = err_from_is_err_and c.from_residual.result c.from_residual.ensures.1 in
     rw (p.1, p.2)
-    (read_to c.read_line.new.progress
+    (read_to c.read_line.new.part
     (c.loop-rest.invariant.same
     ∙ line_refused _ _ _ _ _ (sym c.end_of.ensures ∙ c.in-Some.is) _ c.in_err-read_line.ensures))
 
@@ -60,12 +60,12 @@ loop-rest-preserved c =
 
 pub returns-then-not-laid_out : goal.returns-then-not-laid_out
 returns-then-not-laid_out c =
-    read_to c.loop-rest.progress
+    read_to c.loop-rest.part
     (rw (none-left c.loop-rest.rest.now (search rules)) at c.loop-rest.invariant.same
-    ∙ ends-early _ c.loop-rest.progress (search rules))
+    ∙ ends-early _ c.loop-rest.part (search rules))
 
 pub returns : goal.returns
 returns c =
-    read_to c.loop-rest.progress
+    read_to c.loop-rest.part
     (rw (none-left c.loop-rest.rest.now (search rules)) at c.loop-rest.invariant.same
-    ∙ ends _ c.loop-rest.progress (search rules))
+    ∙ ends _ c.loop-rest.part (search rules))

@@ -7,8 +7,8 @@ use Rattle.read_text.proofs.read.Given as goal
 abbrev pub invariant-loop-rest : goal.invariant-loop-rest
 invariant-loop-rest l =
     record {
-      room : l.progress.lines + length l.rest ≤ 65536;
-      same : reading l.form l.text ≡ reading_on l.form l.progress (lines l.rest);
+      room : l.part.progress.lines + length l.rest ≤ 65536;
+      same : reading l.form l.text ≡ reading_on l.form l.part (lines l.rest);
     }
 
 abbrev pub decreases-loop-rest : goal.decreases-loop-rest

@@ -7,7 +7,7 @@ use Rattle.whole_records_end.proofs.run_unrefused.Goals as goal
 pub returns-in_err-plan : goal.returns-in_err-plan
 returns-in_err-plan c =
     let p = err_from_is_err_and c.from_residual.result c.from_residual.ensures.1 in
-    rw (p.1, p.2) (refused-out _ _ c.in_err-plan.ensures)
+    rw (p.1, p.2) (refused-out _ _ c.in_err-plan.ensures.1)
 
 pub open-requires-clause-sound : goal.open-requires-clause-sound
 open-requires-clause-sound c = sound c.in_ok-plan.ensures

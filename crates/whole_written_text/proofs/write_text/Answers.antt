@@ -1,10 +1,11 @@
 -- `write_text` reads a text and writes it. Assumes nothing.
-use Rattle.std.proofs.Common.{refl, sym, ap, ℕ, List, [], arith}
+use Rattle.std.proofs.Common.{refl, sym, ap, List, [], arith}
 use Rattle.spec_format.specs.Plan.{Plan}
 use Rattle.spec_format.specs.Reading.{Reading}
 use Rattle.spec_report.specs.Outcomes.{Outcome, of_reading, run_text}
 use Rattle.spec_plan_text.specs.Writing.{after_run, text_read, entries_read, write_text}
 use Rattle.read_tables.specs.declared.Note.{Note}
+use Rattle.read_line_promises.specs.declared.Progress.{Progress}
 use Rattle.read_line_promises.specs.Consistent.{Consistent}
 use Rattle.report_ending.proofs.WrittenOut.{same_outcome, refused-out}
 use Rattle.whole_written_text.proofs.write_text.Goals as goal
@@ -17,8 +18,8 @@ pub write_plan-finished-requires : goal.write_plan-finished-requires
 write_plan-finished-requires c = record { text = c.args.text.now; gives = sym c.in-Ok.ensures.gives }
 
 -- What was read is consistent without its notes too.
-without_notes : {plan : Plan} {notes : List Note} {lines blocks written entries : ℕ}
-    → Consistent plan notes lines blocks written entries → Consistent plan [] lines blocks written 0
+without_notes : {plan : Plan} {notes : List Note} {p : Progress} → Consistent plan notes p
+    → Consistent plan [] (record { lines = p.lines; blocks = p.blocks; written = p.written; entries = 0 })
 without_notes k =
     record {
       cards_fit = k.cards_fit;
@@ -39,9 +40,9 @@ without_notes k =
       last_written = k.last_written;
     }
 
-pub invariant_of-progress : goal.invariant_of-progress
-invariant_of-progress c =
-    record { consistent = rw c.clear.ensures (without_notes c.read.new.progress.consistent) }
+pub invariant_of-part : goal.invariant_of-part
+invariant_of-part c =
+    record { consistent = rw c.clear.ensures (without_notes c.read.new.part.consistent) }
 
 pub returns-in-Err : goal.returns-in-Err
 unfolding run_text write_text
