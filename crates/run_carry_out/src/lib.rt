@@ -10,7 +10,6 @@ ghost use Rattle.run_carry_out.specs.Asks.{Asks};
 use read_tables::Plan;
 use run_active_jobs::set_active;
 use run_changes::{add_commit, clear, decide, mark, published};
-use spec_format::Sizes;
 use spec_machine::Version;
 use step_cells::{Change, Tables};
 
@@ -22,13 +21,12 @@ pub fn carry_out(plan: &Plan, p: usize, s: Change, tables: &mut Tables)
     ensures book { tables.new.book ≡ book_after plan.now tables.old p s }
     ensures whole { Whole tables.new }
 {
-    let Sizes { jobs, words, .. } = plan.sizes();
     match s {
         Change::Nothing => {}
         Change::Version(count, flag) => tables.v = Version { count, flag },
         Change::Announced(r) => tables.ann[r as usize] = p as u32,
         Change::Returned(r) => {
-            tables.ann[r as usize] = jobs as u32;
+            tables.ann[r as usize] = plan.sizes().jobs as u32;
             set_active(plan, &mut tables.book, p, false);
         }
         Change::Pending => tables.stat[p] = -1,
@@ -40,11 +38,12 @@ pub fn carry_out(plan: &Plan, p: usize, s: Change, tables: &mut Tables)
         }
         Change::Block(b, from, to) => {
             mark(&mut tables.own[p], b, 2, to);
+            let words = plan.sizes().words;
             let start = from as usize * words;
             let to = to as usize * words;
             tables.store.copy_within(start..start + words, to);
         }
-        Change::Word(number, i, word) => tables.store[number as usize * words + i as usize] = word,
+        Change::Word(number, i, word) => tables.store[number as usize * plan.sizes().words + i as usize] = word,
         Change::Published(n) => {
             let addr = tables.rows.addr[p];
             tables.rows.new[p] = published(&tables.own[p], n as usize, addr, tables.rows.new[p]);
@@ -58,7 +57,7 @@ pub fn carry_out(plan: &Plan, p: usize, s: Change, tables: &mut Tables)
             decide(&mut tables.own[p], n as usize, addr, tables.rows.old[p]);
         }
         Change::Commit(h) => {
-            tables.stat[h as usize] = jobs as i32;
+            tables.stat[h as usize] = plan.sizes().jobs as i32;
             add_commit(tables, h);
         }
     }

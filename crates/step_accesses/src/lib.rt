@@ -96,18 +96,16 @@ pub fn onward(plan: &Plan, m: Move, w: Registers) -> Registers
     let check = Place::Move(Stage::Check);
     let access = w.access + 1;
     if access < accesses(m) {
-        return Registers {
-            place: check,
-            access,
-            ..w
-        };
+        let mut next = w;
+        next.place = check;
+        next.access = access;
+        return next;
     }
     let index = w.index + 1;
     let more = usize::from(index) < plan.moves(usize::from(w.tr)).len();
-    Registers {
-        place: if more { check } else { Place::H22 },
-        index,
-        access: 0,
-        ..w
-    }
+    let mut next = w;
+    next.place = if more { check } else { Place::H22 };
+    next.index = index;
+    next.access = 0;
+    next
 }

@@ -40,15 +40,10 @@ fn list(plan: &Plan, tables: &Tables, p: usize, w: Registers) -> Effect
         return step_shared::quiet(step_shared::go_to(w, place));
     }
     let listed = Change::Listed(u32::from(w.numblks), block as u32, tables.bank[block]);
-    let numblks = w.numblks + 1;
-    step_shared::storing(
-        listed,
-        Registers {
-            place,
-            numblks,
-            ..w
-        },
-    )
+    let mut next = w;
+    next.place = place;
+    next.numblks += 1;
+    step_shared::storing(listed, next)
 }
 
 // Where a word of a block stands in the store: blocks of so many words stand there by their numbers.

@@ -25,15 +25,10 @@ pub fn copy(plan: &Plan, tables: &Tables, p: usize, w: Registers) -> Effect
     }
     let from = own.curr[block];
     let to = own.copy[usize::from(w.dirtycnt)];
-    let dirtycnt = w.dirtycnt + 1;
-    step_shared::storing(
-        Change::Block(block as u32, from, to),
-        Registers {
-            place,
-            dirtycnt,
-            ..w
-        },
-    )
+    let mut next = w;
+    next.place = place;
+    next.dirtycnt += 1;
+    step_shared::storing(Change::Block(block as u32, from, to), next)
 }
 
 // Write the word in that copy.

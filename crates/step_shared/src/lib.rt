@@ -104,7 +104,9 @@ pub fn idle() -> Registers
 pub fn go_to(w: Registers, place: Place) -> Registers
     ensures { result ≡ goto place w }
 {
-    Registers { place, ..w }
+    let mut next = w;
+    next.place = place;
+    next
 }
 
 // An item that changes no table.

@@ -91,6 +91,16 @@ fn fill_line(part: &mut [u8], first: &[u8], numbers: &[u32])
     fill_fields(behind, numbers);
 }
 
+// A line from a place on to a place behind it, as far apart as the line is long.
+#[inline]
+pub fn put_line_to(buffer: &mut [u8], at: usize, end: usize, first: &[u8], numbers: &[u32])
+    requires length { end ≡ at + length (line_of first.now numbers.now) }
+    requires room { end ≤ length buffer.old }
+    ensures { Fills (line_of first.now numbers.now) at buffer.old end buffer.new }
+{
+    fill_line(&mut buffer[at..end], first, numbers);
+}
+
 // A line from a place on, where the buffer has room for it. Answers the place behind it.
 pub fn put_line(buffer: &mut [u8], at: usize, first: &[u8], numbers: &[u32]) -> usize
     requires first_len_bound { (length first.now ≤ 4096) × (length numbers.now ≤ 4096) }
@@ -99,6 +109,6 @@ pub fn put_line(buffer: &mut [u8], at: usize, first: &[u8], numbers: &[u32]) -> 
         buffer.new }
 {
     let end = at + line_length(first.len(), numbers);
-    fill_line(&mut buffer[at..end], first, numbers);
+    put_line_to(buffer, at, end, first, numbers);
     end
 }

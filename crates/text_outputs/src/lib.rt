@@ -59,13 +59,16 @@ impl<'a> Output for Part<'a> {
         (x.at + length xs ≤ length x.buffer.now → Fills xs x.at x.buffer.now y.at y.buffer.now)
         × (y.buffer.ghost_name ≡ x.buffer.ghost_name) };
 
+    #[inline]
     fn line(&mut self, first: &[u8], numbers: &[u32]) {
         let buffer = &mut *self.buffer;
         let length = text_lines::line_length(first.len(), numbers);
         if let Some(room) = buffer.len().checked_sub(self.at)
             && length <= room
         {
-            self.at = text_lines::put_line(buffer, self.at, first, numbers);
+            let end = self.at + length;
+            text_lines::put_line_to(buffer, self.at, end, first, numbers);
+            self.at = end;
         }
     }
 
