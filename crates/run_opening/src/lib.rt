@@ -2,7 +2,7 @@
 // `Sound` stands in clauses: a type of sound plans would be one more around the lent plan, for this one word.
 #![tactic(auto)]
 
-ghost use Rattle.std.specs.Prelude.{◌≡◌, ◌≤◌, ◌+◌, ◌*◌};
+ghost use Rattle.std.specs.Prelude.{◌≡◌, ◌≤◌, ◌+◌, ◌*◌, length};
 ghost use Rattle.spec_format.specs.Plan.{tabulate};
 ghost use Rattle.spec_format.specs.Sound.{Sound};
 ghost use Rattle.step_cells.specs.Changed.{with_stat};
@@ -47,6 +47,17 @@ fn open_own(own: &mut [Own; 16], copies: usize)
     }
 }
 
+// Words, put into a part of their length. By a loop: the library's method calls memmove, a name that the library for C
+// asks nobody for.
+fn put_words(part: &mut [u32], words: &[u32])
+    requires { length part.old ≡ length words.now }
+    ensures { part.new ≡ words.now }
+{
+    for (k, word) in part.iter_mut().enumerate() {
+        *word = words[k];
+    }
+}
+
 // "V is (0, false); every announcement Ann is N; every status is N, and Stat[N] is N always; Bank[k] is NC + k": blank
 // tables, whatever their statuses, filled as at the opening of a plan, with the opening memory behind the copy blocks.
 // No job runs on any card. The tables are lent, so that they stand on the stack once.
@@ -65,5 +76,5 @@ pub fn open(plan: &Plan, tables: &mut Tables)
     tables.stat = [none as i32; 17];
     open_bank(&mut tables.bank, behind_copies);
     open_own(&mut tables.own, sizes.copies);
-    tables.store[start..start + memory.len()].copy_from_slice(memory);
+    put_words(&mut tables.store[start..start + memory.len()], memory);
 }

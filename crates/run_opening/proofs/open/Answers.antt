@@ -12,10 +12,10 @@ returns c =
     let plan = c.args.plan.now in
     let start = plan.sizes.jobs * plan.sizes.copies * plan.sizes.words in
     let small : to_z w32 plan.sizes.jobs ≡ pos plan.sizes.jobs = to_z_pos w32 plan.sizes.jobs (omega arith) in
-    let memory : put_mid start (start + length plan.words - start) (replicate 2304 0) c.copy_from_slice.new.self
+    let memory : put_mid start (start + length plan.words - start) (replicate 2304 0) c.put_words.new.part
     ≡ opening_store plan
-    = put_mid-paste start (start + length plan.words - start) (replicate 2304 0) c.copy_from_slice.new.self
-    plan.words (length plan.words) (c.copy_from_slice.ensures.after ∙ c.words-memory.ensures.value) (omega arith)
+    = put_mid-paste start (start + length plan.words - start) (replicate 2304 0) c.put_words.new.part
+    plan.words (length plan.words) (c.put_words.ensures ∙ c.words-memory.ensures.value) (omega arith)
     refl in
     rw (
       c.requires.blank,
