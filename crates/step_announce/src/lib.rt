@@ -25,14 +25,10 @@ pub fn a2(w: Registers) -> Effect
     ensures does { (plan : Plan) (x : Tables) (p : ℕ) → Does Place.A2 plan x p w result }
     ensures stays_inside { StaysInside result }
 {
-    step_shared::storing(
-        Change::Pending,
-        Registers {
-            place: Place::A4,
-            round: 0,
-            ..w
-        },
-    )
+    let mut next = w;
+    next.place = Place::A4;
+    next.round = 0;
+    step_shared::storing(Change::Pending, next)
 }
 
 // A4: lid := Ann[R]; if N go to A14, else A7.
@@ -47,11 +43,10 @@ pub fn a4(plan: &Plan, tables: &Tables, p: usize, w: Registers) -> Effect
     } else {
         Place::A7
     };
-    step_shared::quiet(Registers {
-        place,
-        lid: lid as u8,
-        ..w
-    })
+    let mut next = w;
+    next.place = place;
+    next.lid = lid as u8;
+    step_shared::quiet(next)
 }
 
 // A14: Ann[R] := p. Round 0: round 1, to A4. Round 1: to A15.
@@ -61,15 +56,13 @@ pub fn a14(plan: &Plan, p: usize, w: Registers) -> Effect
     ensures stays_inside { StaysInside result }
 {
     let announced = Change::Announced(plan.jobs()[p].card as u32);
-    let next = if w.round == 0 {
-        Registers {
-            place: Place::A4,
-            round: 1,
-            ..w
-        }
+    let mut next = w;
+    if w.round == 0 {
+        next.place = Place::A4;
+        next.round = 1;
     } else {
-        step_shared::go_to(w, Place::A15)
-    };
+        next.place = Place::A15;
+    }
     step_shared::storing(announced, next)
 }
 

@@ -33,7 +33,9 @@ pub fn h41(tables: &Tables, w: Registers) -> Effect
     } else {
         Place::H42
     };
-    let next = Registers { place, j, ..w };
+    let mut next = w;
+    next.place = place;
+    next.j = j;
     if may_store(tables, w) {
         step_shared::doing(Change::Bank(u32::from(w.addr), u32::from(w.new)), next)
     } else {

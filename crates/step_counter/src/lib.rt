@@ -35,7 +35,10 @@ pub fn a7(plan: &Plan, tables: &Tables, p: usize, w: Registers) -> Effect
     } else {
         Place::A10
     };
-    step_shared::quiet(Registers { place, ver, ..w })
+    let mut next = w;
+    next.place = place;
+    next.ver = ver;
+    step_shared::quiet(next)
 }
 
 // Neither k nor Stat[k] is N.
@@ -55,13 +58,11 @@ pub fn a10(plan: &Plan, tables: &Tables, p: usize, w: Registers) -> Effect
 {
     let card = (w.ver.count as usize + 1) % plan.sizes().cards;
     let hid = step_shared::announced(&tables.ann, card) as u8;
-    let next = is_pending(plan, tables, hid);
-    step_shared::quiet(Registers {
-        place: Place::A12,
-        hid,
-        next,
-        ..w
-    })
+    let mut next = w;
+    next.place = Place::A12;
+    next.hid = hid;
+    next.next = is_pending(plan, tables, hid);
+    step_shared::quiet(next)
 }
 
 // A12: if V = ver, V becomes (count + 1, new flag). To A7.

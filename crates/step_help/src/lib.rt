@@ -22,11 +22,10 @@ pub fn h16(plan: &Plan, tables: &Tables, p: usize, w: Registers) -> Effect
 {
     let card = w.ver.count as usize % plan.sizes().cards;
     let hid = step_shared::announced(&tables.ann, card) as u8;
-    step_shared::quiet(Registers {
-        place: Place::H17,
-        hid,
-        ..w
-    })
+    let mut next = w;
+    next.place = Place::H17;
+    next.hid = hid;
+    step_shared::quiet(next)
 }
 
 // H17: Stat[hid] = N to A10; −1 to H21; else H32.
@@ -64,15 +63,14 @@ pub fn h21(plan: &Plan, tables: &Tables, w: Registers) -> Effect
     ensures stays_inside { StaysInside result }
 {
     let tr = tables.trans[usize::from(w.hid)];
-    step_shared::quiet(Registers {
-        place: begin(plan.moves(tr as usize)),
-        tr: tr as u8,
-        index: 0,
-        access: 0,
-        numblks: 0,
-        dirtycnt: 0,
-        ..w
-    })
+    let mut next = w;
+    next.place = begin(plan.moves(tr as usize));
+    next.tr = tr as u8;
+    next.index = 0;
+    next.access = 0;
+    next.numblks = 0;
+    next.dirtycnt = 0;
+    step_shared::quiet(next)
 }
 
 // H22: publish the new block numbers of all listed blocks and their count.

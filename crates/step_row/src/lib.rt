@@ -31,7 +31,10 @@ pub fn h32(plan: &Plan, tables: &Tables, p: usize, w: Registers) -> Effect
     } else {
         Place::H34
     };
-    step_shared::quiet(Registers { place, wid, ..w })
+    let mut next = w;
+    next.place = place;
+    next.wid = wid;
+    step_shared::quiet(next)
 }
 
 // The job that a status names.
@@ -49,12 +52,11 @@ pub fn h34(tables: &Tables, p: usize, w: Registers) -> Effect
     ensures stays_inside { StaysInside result }
 {
     let n = tables.numblks[job_named(w.wid)];
-    step_shared::quiet(Registers {
-        place: if n == 0 { Place::H42 } else { Place::H36 },
-        numblks: n as u8,
-        j: 0,
-        ..w
-    })
+    let mut next = w;
+    next.place = if n == 0 { Place::H42 } else { Place::H36 };
+    next.numblks = n as u8;
+    next.j = 0;
+    step_shared::quiet(next)
 }
 
 // For each listed block: H36, V not ver, to A10.
@@ -92,12 +94,11 @@ fn read_row(w: Registers, addr: [u32; 16], old: [u32; 16], new: [u32; 16]) -> Re
     ensures { result ≡ at_line (get_or addr w.j 0) (get_or old w.j 0) (get_or new w.j 0) w }
 {
     let j = usize::from(w.j);
-    Registers {
-        addr: addr[j] as u8,
-        old: old[j] as u8,
-        new: new[j] as u8,
-        ..w
-    }
+    let mut next = w;
+    next.addr = addr[j] as u8;
+    next.old = old[j] as u8;
+    next.new = new[j] as u8;
+    next
 }
 
 // H38, read wid's address, old, new.
