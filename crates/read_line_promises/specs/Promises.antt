@@ -1,5 +1,5 @@
--- What reading one line promises: the draft after that line, with its entries noted, or the line's refusal. Progress and
--- PartRead are declared in src/lib.rt. Assumes nothing.
+-- What reading one line promises: the draft after that line, with its entries noted, or the line's refusal. PartRead
+-- and Progress are declared in src/lib.rt. Assumes nothing.
 use Rattle.std.specs.Prelude.{ℕ, ◌+◌, ◌≡◌, true, [], ◌++◌, Option, Result, Ok, Err, List, drop}
 use Rattle.spec_format.specs.declared.Form.{Form}
 use Rattle.spec_format.specs.declared.Kind.{Kind}

@@ -1,5 +1,5 @@
-// What has been read of a text: the plan so far, the notes on entry lines, and counts. specs/ says what always holds of
-// them and what reading one line promises.
+// What has been read of a text: the plan so far, the notes on entry lines, and counts. specs/ says what always holds
+// of them and what reading one line promises.
 #![tactic(auto)]
 
 ghost use Rattle.read_line_promises.specs.Consistent.{Consistent};

@@ -156,9 +156,9 @@ module _ (form : Form) (p q : PartRead) (s : List ℕ) (n : ℕ) (end : position
         → listed_in p.notes.items ++ entries_of w (p.progress.lines + 1) (the_line ∷ ls)
         ≡ listed_in q.notes.items ++ entries_of w (q.progress.lines + 1) ls
     entries-are w ls =
-        ap (λ l. listed_in p.notes.items ++ (l ++ entries_of w (p.progress.lines + 1 + 1) ls))
-        (line-listed w p.plan.sizes.words (p.progress.lines + 1) the_line)
-        ∙ sym (append_assoc (listed_in p.notes.items) (listed (p.progress.lines + 1) says-it) (entries_of w (p.progress.lines + 1 + 1) ls))
+        let n = p.progress.lines + 1 in
+        ap (λ l. listed_in p.notes.items ++ (l ++ entries_of w (n + 1) ls)) (line-listed w p.plan.sizes.words n the_line)
+        ∙ sym (append_assoc (listed_in p.notes.items) (listed n says-it) (entries_of w (n + 1) ls))
         ∙ (λ i. sym done.noted i ++ entries_of w (sym lines-is i + 1) ls)
 
     -- The line is read.
@@ -174,5 +174,6 @@ module _ (form : Form) (p q : PartRead) (s : List ℕ) (n : ℕ) (end : position
         go (refused f m) = refl
         go (sound d) =
             let ls = lines (drop (n + 1) s) in
-            let many : p.progress.lines + length (the_line ∷ ls) ≡ q.progress.lines + length ls = omega (arith, lines-is) in
+            let many : p.progress.lines + length (the_line ∷ ls) ≡ q.progress.lines + length ls
+            = omega (arith, lines-is) in
             λ i. accepted d.plan (entries-are d.plan.sizes.words ls i) (many i)

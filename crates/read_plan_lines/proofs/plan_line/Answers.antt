@@ -20,7 +20,8 @@ none_written s (u ∷ us) e = absurd (omega arith)
 -- What always holds, with the sizes of the first line.
 sized : (z : Sizes) (plan : Plan) (notes : List Note) (blocks written entries : ℕ) → in_range z ≡ true
     → Consistent plan notes (record { lines = 0; blocks = blocks; written = written; entries = entries })
-    → Consistent (with_sizes z plan) notes (record { lines = 1; blocks = blocks; written = written; entries = entries })
+    → Consistent (with_sizes z plan) notes
+    (record { lines = 1; blocks = blocks; written = written; entries = entries })
 sized z plan notes blocks written entries good h =
     let no_block : blocks ≡ 0 = omega (arith, h.in_lines) in
     let no_update : length plan.updates ≡ 0 = omega (arith, h.in_lines) in

@@ -13,22 +13,22 @@ returns-in_err-plan c =
 pub run_notes-ran-requires : goal.run_notes-ran-requires
 run_notes-ran-requires c =
     let b = c.in_ok-plan.ensures in
-    record { sound = sound b; few = few_noted c.note_records-count.new.notes.items (c.note_records-count.ensures.noted b.few) b.few }
+    let few = few_noted c.note_records-count.new.notes.items (c.note_records-count.ensures.noted b.few) b.few in
+    record { sound = sound b; few = few }
 
 pub returns-in_err-end : goal.returns-in_err-end
 returns-in_err-end c =
     let b = c.in_ok-plan.ensures in
     let ends = rw (c.note_records-count.ensures.noted b.few) at c.run_notes-ran.ensures in
+    let so = rw c.note_records-count.ensures.count at c.in_err-end.ensures in
     let p = err_from_is_err_and c.from_residual-in_err-end.result c.from_residual-in_err-end.ensures.1 in
-    rw (p.1, p.2)
-    (refused-out _ _
-    (refused_as _ _ _
-    (misplaced b _ _ _ _ _ ends.other_is (rw c.note_records-count.ensures.count at c.in_err-end.ensures))))
+    rw (p.1, p.2) (refused-out _ _ (refused_as _ _ _ (misplaced b _ _ _ _ _ ends.other_is so)))
 
 pub write_after-requires : goal.write_after-requires
 write_after-requires c =
     let b = c.in_ok-plan.ensures in
-    record { sound = sound b; few = few_noted c.note_records-count.new.notes.items (c.note_records-count.ensures.noted b.few) b.few }
+    let few = few_noted c.note_records-count.new.notes.items (c.note_records-count.ensures.noted b.few) b.few in
+    record { sound = sound b; few = few }
 
 pub returns : goal.returns
 returns c =
