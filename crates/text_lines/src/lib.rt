@@ -11,6 +11,10 @@ ghost use Rattle.text_lines.specs.Fills.{Fills};
 pub fn width(n: u32) -> usize
     ensures { result ≡ length (decimal n) }
 {
+    // Most numbers of a text have one digit.
+    if n < 10 {
+        return 1;
+    }
     match n.checked_ilog10() {
         Some(k) => k as usize + 1,
         None => 1,
@@ -49,11 +53,12 @@ fn fill_decimal(part: &mut [u8], n: u32) -> usize
     let mut rest = n;
     // By place, since the place is the answer.
     for at in (0..part.len()).rev() {
-        part[at] = b'0' + (rest % 10) as u8;
-        rest /= 10;
-        if rest == 0 {
+        if rest < 10 {
+            part[at] = b'0' + rest as u8;
             return at;
         }
+        part[at] = b'0' + (rest % 10) as u8;
+        rest /= 10;
     }
     unreachable!()
 }

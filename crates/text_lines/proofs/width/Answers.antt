@@ -5,6 +5,9 @@ use lib.ListN.{length}
 use Rattle.spec_text.proofs.Digits.{decimal-small, length-decimal}
 use Rattle.text_lines.proofs.width.Goals as goal
 
+pub returns-then-n-lt10 : goal.returns-then-n-lt10
+returns-then-n-lt10 c = sym (ap length (decimal-small c.args.n (omega arith)))
+
 pub returns-in-Some : goal.returns-in-Some
 returns-in-Some c =
     let e = c.in-Some.ensures in
