@@ -15,7 +15,7 @@ use std::fmt::Write;
 use vectors_cases::{Case, Kind};
 
 // What every byte of the buffer is before a run.
-const MARKER: u8 = 170;
+pub const MARKER: u8 = 170;
 
 // Standard output, which takes text piece by piece: of a `write!` the parts of its literal, and what fills each hole.
 // A piece that cannot be written is told, as `write_output` does it, and those behind it are written all the same.
