@@ -64,7 +64,7 @@ fn take(plan: &Plan, tables: &Tables, p: usize, w: Registers) -> Effect
     let word = step_accesses::word_of(m, w.access) as usize;
     let words = plan.sizes().words;
     let number = step_shared::own_of(&tables.own, p).curr[word / words]; // its copy's, once there is one
-    let mut next = w; // changed in place: of a struct update that goes to a call the proof did not close
+    let mut next = w;
     next.word = tables.store[place_in_store(number, words, word % words)];
     step_shared::quiet(step_accesses::onward(plan, m, next))
 }
