@@ -43,7 +43,10 @@ pub fn carry_out(plan: &Plan, p: usize, s: Change, tables: &mut Tables)
             let to = to as usize * words;
             tables.store.copy_within(start..start + words, to);
         }
-        Change::Word(number, i, word) => tables.store[number as usize * plan.sizes().words + i as usize] = word,
+        Change::Word(number, i, word) => {
+            let start = number as usize * plan.sizes().words;
+            tables.store[start + i as usize] = word;
+        }
         Change::Published(n) => {
             let addr = tables.rows.addr[p];
             tables.rows.new[p] = published(&tables.own[p], n as usize, addr, tables.rows.new[p]);
