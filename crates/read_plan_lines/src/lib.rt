@@ -20,7 +20,8 @@ const LARGEST_PRIORITY: usize = 255;
 // `plan P N B S C`.
 pub fn plan_line(line: &[u8], at: usize, part: &mut PartRead) -> Result<(), LineFault>
     requires { part.old.progress.lines ≡ 0 }
-    ensures { LineStep part.old part.new (directive_of Kind.Plan (numbers 5 (fields_at line.now at))) result }
+    ensures step { LineStep part.old part.new (directive_of Kind.Plan (numbers 5 (fields_at line.now at))) result }
+    ensures notes { part.new.notes ≡ part.old.notes }
 {
     let number = part.progress.lines + 1;
     let Some(numbers) = numbers_at::<5>(line, at) else {
@@ -52,7 +53,8 @@ pub fn plan_line(line: &[u8], at: usize, part: &mut PartRead) -> Result<(), Line
 pub fn job_line(line: &[u8], at: usize, part: &mut PartRead) -> Result<(), LineFault>
     requires more { length part.old.plan.jobs < part.old.plan.sizes.jobs }
     requires room { part.old.progress.lines < 65536 }
-    ensures { LineStep part.old part.new (directive_of Kind.Job (numbers 2 (fields_at line.now at))) result }
+    ensures step { LineStep part.old part.new (directive_of Kind.Job (numbers 2 (fields_at line.now at))) result }
+    ensures notes { part.new.notes ≡ part.old.notes }
 {
     let number = part.progress.lines + 1;
     let Some(numbers) = numbers_at::<2>(line, at) else {
@@ -87,9 +89,10 @@ pub fn job_line(line: &[u8], at: usize, part: &mut PartRead) -> Result<(), LineF
 pub fn block_line(line: &[u8], at: usize, part: &mut PartRead) -> Result<(), LineFault>
     requires more { part.old.progress.blocks < part.old.plan.sizes.blocks }
     requires room { part.old.progress.lines < 65536 }
-    ensures { LineStep part.old part.new
+    ensures step { LineStep part.old part.new
         (directive_of Kind.Block (numbers part.old.plan.sizes.words (fields_at line.now at)))
         result }
+    ensures notes { part.new.notes ≡ part.old.notes }
 {
     let number = part.progress.lines + 1;
     let mut words = [0; 16];

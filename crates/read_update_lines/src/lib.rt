@@ -16,7 +16,8 @@ use spec_format::{Fault, LineFault, Move};
 #[tactic(auto, using(std::proofs::lemmas::List::length_push, crate::proofs::Updates::none_written))]
 pub fn update_line(n: Option<u32>, part: &mut PartRead) -> Result<(), LineFault>
     requires { part.old.progress.lines < 65536 }
-    ensures { LineStep part.old part.new (option_map update n) result }
+    ensures step { LineStep part.old part.new (option_map update n) result }
+    ensures notes { part.new.notes ≡ part.old.notes }
 {
     let number = part.progress.lines + 1;
     let Some(n) = n else {
@@ -81,7 +82,8 @@ fn written_with(moves: &[Move], m: Move, size: usize, blocks: usize) -> usize
 pub fn move_line(m: Option<Move>, part: &mut PartRead) -> Result<(), LineFault>
     requires some { 0 < length part.old.plan.updates }
     requires room { part.old.progress.lines < 65536 }
-    ensures { LineStep part.old part.new (option_map move m) result }
+    ensures step { LineStep part.old part.new (option_map move m) result }
+    ensures notes { part.new.notes ≡ part.old.notes }
 {
     let number = part.progress.lines + 1;
     let Some(m) = m else {

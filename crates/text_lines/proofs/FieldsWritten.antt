@@ -20,10 +20,6 @@ some-digit n h = go (dec_lt n 10)
     go (no m) =
         rw (decimal-large n (omega arith) h, length-append (decimal (n / 10)) ((48 + n % 10) ∷ [])) (omega arith)
 
--- A number below ten is its last digit.
-pub only-digit : (n : ℕ) → n / 10 ≡ 0 → decimal n ≡ [] ++ ((48 + n % 10) ∷ [])
-only-digit n h = let less : n % 10 ≡ n = omega arith in rw (less, decimal-small n (omega arith))
-
 -- The fields of numbers, each behind a tab.
 abbrev pub tabbed : List ℕ → List ℕ
 tabbed [] = []

@@ -59,7 +59,8 @@ impl<'a> Output for Part<'a> {
         (x.at + length xs ≤ length x.buffer.now → Fills xs x.at x.buffer.now y.at y.buffer.now)
         × (y.buffer.ghost_name ≡ x.buffer.ghost_name) };
 
-    // Inlined: the first fields of lines are known where they are written, and a call for each line takes longer.
+    // Inlined: the first fields of lines are known where they are written, so that no call is made for each line, and
+    // the library for C asks for no memmove.
     #[inline]
     fn line(&mut self, first: &[u8], numbers: &[u32]) {
         let buffer = &mut *self.buffer;
