@@ -107,12 +107,13 @@ show('4c', 'conversions by a function of their own',
 by_hand = has_name(r'find|scan|count|fill\w*|copy_words|put_bytes|put_words|open_statuses|clear|same_lines|width'
                    r'|published|reclaim')
 show('4d', 'copying, filling, searching or counting by hand',
-     functions_where(lambda n, p, r: by_hand(n, p, r) and 'while' in r))
+     functions_where(lambda n, p, r: by_hand(n, p, r)
+                     and ('while' in r or re.search(r'\*\w+ = \w+\[\w+\];', r))))
 tables = r'\b(cells|stat|store|addr|old|new|commits): &'
 show('5a', 'functions that take two or more of the seven tables',
      functions_where(lambda n, p, r: len(set(re.findall(tables, p))) > 1))
 show('5b', 'functions that take how far a reading has come, and its tables beside it',
-     functions_where(lambda n, p, r: re.search(r'\bp: Progress|c: Cursor', p) and 'plan:' in p
+     functions_where(lambda n, p, r: re.search(r'\b(p|progress): Progress|c: Cursor', p) and 'plan:' in p
                      or re.search(r'parsed: Parsed', p)))
 show('5c', 'functions that take the names of a case, one by one', functions_where(lambda n, p, r: 'case_name' in p))
 show('5d', 'functions that take a buffer and a place in it',
