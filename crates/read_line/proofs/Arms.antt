@@ -31,7 +31,11 @@ unknown-is Kind.Unknown = refl
 parsed_is : (s : ℕ) (line : List ℕ)
     → parsed_of s (record { bytes = line; ended = true })
     ≡ (let k = kind_of (take (place_of 9 line 0) line) in
-    record { ended = true; kind = k; directive = directive_of k (numbers_for s k (fields_at line (place_of 9 line 0 + 1))) })
+    record {
+      ended = true;
+      kind = k;
+      directive = directive_of k (numbers_for s k (fields_at line (place_of 9 line 0 + 1)));
+    })
 unfolding parsed_of
 parsed_is s line = rw (fields-first line) refl
 

@@ -148,8 +148,8 @@ module _ (form : Form) (p q : PartRead) (s : List ℕ) (n : ℕ) (end : position
     -- One more line has been read.
     pub lines-is : q.progress.lines ≡ p.progress.lines + 1
     lines-is =
-        ap (λ (d : Draft). d.lines) (sound-after form (draft_in p) (draft_in q) (parsed_in (draft_in p) the_line) done.says)
-        ∙ one_more (draft_in p) says-it
+        let next = sound-after form (draft_in p) (draft_in q) (parsed_in (draft_in p) the_line) done.says in
+        ap (λ (d : Draft). d.lines) next ∙ one_more (draft_in p) says-it
 
     -- The single entries noted with the line's, and those behind it, are all.
     entries-are : (w : ℕ) (ls : List Line)
@@ -157,7 +157,8 @@ module _ (form : Form) (p q : PartRead) (s : List ℕ) (n : ℕ) (end : position
         ≡ listed_in q.notes.items ++ entries_of w (q.progress.lines + 1) ls
     entries-are w ls =
         let n = p.progress.lines + 1 in
-        ap (λ l. listed_in p.notes.items ++ (l ++ entries_of w (n + 1) ls)) (line-listed w p.plan.sizes.words n the_line)
+        ap (λ l. listed_in p.notes.items ++ (l ++ entries_of w (n + 1) ls))
+        (line-listed w p.plan.sizes.words n the_line)
         ∙ sym (append_assoc (listed_in p.notes.items) (listed n says-it) (entries_of w (n + 1) ls))
         ∙ (λ i. sym done.noted i ++ entries_of w (sym lines-is i + 1) ls)
 

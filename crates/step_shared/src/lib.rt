@@ -100,8 +100,8 @@ pub fn idle() -> Registers
     }
 }
 
-// On to a place. The registers are copied whole, and changed then, as by all items: a struct update copies them field by
-// field, and the loop over the entries takes longer.
+// On to a place. The registers are copied whole, and changed then, as by all items: a struct update copies them field
+// by field, and the loop over the entries takes longer.
 pub fn go_to(w: Registers, place: Place) -> Registers
     ensures { result ≡ goto place w }
 {

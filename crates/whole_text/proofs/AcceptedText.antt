@@ -66,6 +66,7 @@ module _ {plan : Plan} {ls : List Listed} {lines : ℕ} (reads : Reads plan ls l
     to-report = reportable sound-plan few-es ran.1
 
     -- and it is that of the run.
-    pub the-run : written end (report_bytes plan x (end_number end) (end_line end)) ≡ run_outcome plan es (line_in ls) lines
+    pub the-run : written end (report_bytes plan x (end_number end) (end_line end))
+        ≡ run_outcome plan es (line_in ls) lines
     the-run =
         the-outcome sound-plan few-es ran.1 (line_in ls) lines end (end_is sound-plan few-es ran.1 (line_in ls) lines)

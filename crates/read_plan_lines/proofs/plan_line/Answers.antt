@@ -32,7 +32,7 @@ sized z plan notes blocks written entries good h =
     search rules
 
 pub invariant_of-part : goal.invariant_of-part
-invariant_of-part c = record {
-  consistent = rw (c.set_sizes.ensures, c.requires)
-      (sized _ _ _ _ _ _ (sym c.in_range.ensures ∙ c.if-not-in_range.false) (rw c.requires at c.args.part.now.consistent));
-}
+invariant_of-part c =
+    let before = rw c.requires at c.args.part.now.consistent in
+    let good = sym c.in_range.ensures ∙ c.if-not-in_range.false in
+    record { consistent = rw (c.set_sizes.ensures, c.requires) (sized _ _ _ _ _ _ good before) }
